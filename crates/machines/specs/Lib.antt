@@ -1,0 +1,5 @@
+pub mod Automaton
+pub mod Deadline
+pub mod Refusals
+pub mod Steps
+pub mod laws

@@ -1,0 +1,6 @@
+// Timed automata behind one interface.
+pub mod borrowed;
+pub mod deadline;
+pub mod machine;
+pub mod mask;
+pub mod refusal;
