@@ -1,0 +1,4 @@
+mod Hexes
+mod Numerals
+mod Spellings
+mod Words

@@ -1,0 +1,6 @@
+// The statements of a script.
+pub mod fault;
+pub mod hex;
+pub mod number;
+pub mod statement;
+pub mod text;
