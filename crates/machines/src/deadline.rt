@@ -9,6 +9,10 @@ use crate::mask::has_label;
 use crate::mask::kth_label;
 use crate::refusal::Refusal;
 
+const LOCATIONS: u32 = 2;
+
+const CLOCKS: u8 = 1;
+
 // After label `a`, and until label `b`, every label of `m` comes within `c` ticks.
 #[derive(Clone, Copy)]
 pub struct Deadline {
@@ -36,11 +40,11 @@ pub impl Machine for Deadline as DeadlineMachine {
     ghost lawful = { λ d. deadline-lawful (d .a) (d .b) (d .m) (d .c) (d .ok) };
 
     fn locations(&self) -> u32 {
-        2
+        LOCATIONS
     }
 
     fn clocks(&self) -> u8 {
-        1
+        CLOCKS
     }
 
     fn width(&self) -> u32 {
@@ -52,7 +56,7 @@ pub impl Machine for Deadline as DeadlineMachine {
     }
 
     fn edge_count(&self, location: u32) -> Option<u32> {
-        if location < 2 {
+        if location < LOCATIONS {
             Some(self.m.count_ones())
         } else {
             None
