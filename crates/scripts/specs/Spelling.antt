@@ -10,7 +10,7 @@ use Rattle.std.specs.declared.option.Option.the-variants.{Some, None}
 use Rattle.std.specs.declared.result.Result.{Result}
 use Rattle.std.specs.declared.result.Result.the-variants.{Ok, Err}
 use Rattle.scripts.specs.declared.fault.Fault.{Fault}
-use Rattle.scripts.specs.declared.fault.Fault.the-variants.{Memory, Unknown, Words, Number, Hex}
+use Rattle.scripts.specs.declared.fault.Fault.the-variants.{Memory, Unknown, Words, Number, Hex, Missing, Paired, File}
 use Rattle.scripts.specs.declared.statement.Keyword.{Keyword}
 use Rattle.scripts.specs.declared.statement.Keyword.the-variants as keyword
 use Rattle.scripts.specs.declared.statement.Statement.{Statement}
@@ -55,13 +55,16 @@ Spelled (Deadline name a b m c) ws = (length ws ≡ 6) × (word-at ws 0 ≡ code
 Spelled (Pair name left right) ws = ws ≡ codes "pair" ∷ now name ∷ now left ∷ now right ∷ []
 Spelled (Describe name) ws = ws ≡ codes "describe" ∷ now name ∷ []
 
--- why the words spell none
+-- why the words spell none; other faults come later
 abbrev pub Faulty : Fault → List (List ℕ) → Type 0
 Faulty Memory ws = ⊥
 Faulty Unknown ws = (0 < length ws) × ((k : Keyword) → word-at ws 0 ≡ spelling k → ⊥)
 Faulty Words ws = (k : Keyword) × (word-at ws 0 ≡ spelling k) × (length ws ≡ arity-of k → ⊥)
 Faulty Number ws = (length ws ≡ 6) × (word-at ws 0 ≡ codes "deadline") × (i : ℕ) × (2 ≤ i) × (i < 6) × (Written (word-at ws i) → ⊥)
 Faulty Hex ws = ⊥
+Faulty Missing ws = ⊥
+Faulty Paired ws = ⊥
+Faulty File ws = ⊥
 
 abbrev pub Read : List (List ℕ) → Result Statement Fault → Type 0
 Read ws (Ok s) = Spelled s ws

@@ -1,8 +1,9 @@
-// Why a line of a script is no statement.
+// Why a line of a script is not done.
 ghost use mathlib.Core.Path.{_≡_};
 ghost use Rattle.scripts.specs.declared.fault.Fault.the-variants.{Memory};
 use std::alloc::AllocError;
 use std::alloc::Refused;
+use std::fmt;
 
 #[derive(Clone, Copy, PartialEq, Debug)]
 pub enum Fault {
@@ -16,6 +17,28 @@ pub enum Fault {
     Number,
     // A word is not made of pairs of hexadecimal digits.
     Hex,
+    // No machine has the name.
+    Missing,
+    // The name stands for a pair, where a table or a deadline is wanted.
+    Paired,
+    // The file cannot be read.
+    File,
+}
+
+pub impl fmt::Display for Fault as FaultDisplay {
+    fn fmt<W: fmt::Write>(&self, f: &mut fmt::Formatter<W>) -> fmt::Result {
+        let text = match self {
+            Fault::Memory => "out of memory",
+            Fault::Unknown => "unknown statement",
+            Fault::Words => "wrong number of words",
+            Fault::Number => "not a number of 32 bits",
+            Fault::Hex => "not pairs of hexadecimal digits",
+            Fault::Missing => "no machine has this name",
+            Fault::Paired => "a pair is no part of a pair",
+            Fault::File => "the file cannot be read",
+        };
+        write!(f, "{text}")
+    }
 }
 
 pub impl From<AllocError> for Fault as FaultFromAlloc {

@@ -1,12 +1,13 @@
 // The words of a line.
 ghost use mathlib.Core.Path.{_≡_};
-ghost use Prim.Native.Nat.{_≤_};
-ghost use lib.ListN.{length};
+ghost use Prim.Native.Nat.{_≤_, _<_};
+ghost use lib.ListN.{length, drop};
 ghost use Rattle.std.specs.shelf.Lists.{leading};
 ghost use mathlib.Core.List.{map};
 ghost use Rattle.std.specs.Of.Vec.{vec-items};
 ghost use Rattle.std.specs.Vec.{made};
-ghost use Rattle.scripts.specs.Lines.{goes-on, code-of, NextWord, words-of};
+ghost use Rattle.scripts.specs.declared.text.Run.the-variants.{Line};
+ghost use Rattle.scripts.specs.Lines.{goes-on, front, past, code-of, NextWord, words-of};
 use std::alloc::AllocError;
 use std::alloc::Global;
 
@@ -19,6 +20,8 @@ pub enum Run {
     Word,
     // anything but a '#'
     Code,
+    // anything but a line feed
+    Line,
 }
 
 // Whether a run of this kind goes on with the byte.
@@ -30,6 +33,7 @@ fn goes_on(run: Run, b: u8) -> bool
         Run::Blanks => blank,
         Run::Word => !blank,
         Run::Code => b != b'#',
+        Run::Line => b != b'\n',
     }
 }
 
@@ -44,6 +48,20 @@ fn run_length(text: &[u8], run: Run) -> usize
         }
     }
     text.len()
+}
+
+// The first line of the text, and the lines after it.
+pub fn next_line(text: &[u8]) -> (&[u8], &[u8])
+    ensures line { λ r. ⌜ now (r .0) ≡ front Line (now (text .entry)) ⌝ }
+    ensures after { λ r. ⌜ now (r .1) ≡ drop 1 (past Line (now (text .entry))) ⌝ }
+    ensures falls { λ r. ⌜ (0 < length (now (text .entry)) → length (now (r .1)) < length (now (text .entry))) ⌝ }
+{
+    let (line, rest) = text.split_at(run_length(text, Run::Line));
+    if rest.is_empty() {
+        return (line, rest);
+    }
+    let (_, after) = rest.split_at(1);
+    (line, after)
 }
 
 // The line without its comment, which a '#' begins.

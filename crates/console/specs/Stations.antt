@@ -1,0 +1,36 @@
+-- The machine that a part of a script makes.
+use mathlib.Core.Path.{_≡_}
+use mathlib.Core.Bool.{Bool, true, false}
+use mathlib.Core.List.{List}
+use Prim.Native.Nat.{ℕ}
+use Rattle.std.specs.Of.Vec.{vec-items}
+use Rattle.std.specs.Results.{isOk}
+use Rattle.machines.specs.Automaton.{Automaton, bare}
+use Rattle.machines.specs.Deadline.{DeadlineArguments, deadline}
+use Rattle.models.specs.Format.{verdict}
+use Rattle.models.specs.Model.{model}
+use Rattle.machines.specs.declared.machine.Summary.{Summary}
+use Rattle.machines.specs.declared.refusal.Refusal.{Refusal}
+use Rattle.machines.specs.Refusals.{Refused}
+use Rattle.pairs.specs.Product.{within-limits, product}
+use Rattle.std.specs.Results.{Cases}
+use Rattle.std.specs.declared.result.Result.{Result}
+use Rattle.console.specs.declared.part.Part.{Part}
+use Rattle.console.specs.declared.part.Part.the-variants.{Table, Deadline}
+
+-- a lawful file or lawful numbers are the automaton that they say
+abbrev pub IsPart : Part → Automaton → Type 0
+IsPart (Table file) A = isOk (verdict (vec-items file)) ≡ true → A ≡ model (vec-items file)
+IsPart (Deadline a b m c) A = DeadlineArguments a b m c → A ≡ deadline a b m c
+
+-- the numbers of the automaton as a whole
+abbrev pub Sums : Summary → Automaton → Type 0
+Sums s A = (s .locations ≡ A .locations) × (s .clocks ≡ A .clocks) × (s .width ≡ A .width) × (s .labels ≡ A .labels)
+
+-- what the pair of two parts is answered: its numbers, or 7 where it would be too large
+pub record Paired (left right : Part) (r : Result Summary Refusal) : Type 0 where
+  pub A : Automaton
+  pub B : Automaton
+  pub left-is : IsPart left A
+  pub right-is : IsPart right B
+  pub answer : Cases r (λ s. (within-limits A B ≡ true) × Sums s (product A B)) (λ e. (within-limits A B ≡ false) × Refused e 7 0)

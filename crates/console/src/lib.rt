@@ -1,0 +1,4 @@
+// The machines that a script has named.
+pub mod answer;
+pub mod part;
+pub mod session;

@@ -1,0 +1,9 @@
+pub mod Atoms
+pub mod Bytes
+pub mod Files
+pub mod Index
+pub mod Models
+pub mod Places
+pub mod Questions
+pub mod Sorted
+pub mod Unions

@@ -1,0 +1,5 @@
+// Model files: a timed automaton as records of bytes.
+mod check;
+mod index;
+pub mod numbers;
+pub mod table;

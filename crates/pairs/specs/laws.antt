@@ -1,0 +1,4 @@
+pub mod Atoms
+pub mod Origins
+pub mod Products
+pub mod Unions

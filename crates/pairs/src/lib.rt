@@ -1,0 +1,5 @@
+// The product of two machines.
+mod edges;
+pub mod pair;
+mod part;
+mod parts;
