@@ -1,6 +1,6 @@
 -- The machine that a part of a script makes.
 use mathlib.Core.Path.{_≡_}
-use mathlib.Core.Bool.{Bool, true, false}
+use mathlib.Core.Bool.{true, false, cond}
 use mathlib.Core.List.{List}
 use Prim.Native.Nat.{ℕ}
 use Rattle.std.specs.Of.Vec.{vec-items}
@@ -18,10 +18,10 @@ use Rattle.std.specs.declared.result.Result.{Result}
 use Rattle.console.specs.declared.part.Part.{Part}
 use Rattle.console.specs.declared.part.Part.the-variants.{Table, Deadline}
 
--- a lawful file or lawful numbers are the automaton that they say
+-- a lawful file or lawful numbers are the automaton that they say, and others one bare location
 abbrev pub IsPart : Part → Automaton → Type 0
-IsPart (Table file) A = isOk (verdict (vec-items file)) ≡ true → A ≡ model (vec-items file)
-IsPart (Deadline a b m c) A = DeadlineArguments a b m c → A ≡ deadline a b m c
+IsPart (Table file) A = A ≡ cond (isOk (verdict (vec-items file))) (model (vec-items file)) bare
+IsPart (Deadline a b m c) A = (DeadlineArguments a b m c → A ≡ deadline a b m c) × ((DeadlineArguments a b m c → ⊥) → A ≡ bare)
 
 -- the numbers of the automaton as a whole
 abbrev pub Sums : Summary → Automaton → Type 0
