@@ -5,6 +5,7 @@ use mathlib.Core.Bool.{Bool, true, false, cond, _&&_}
 use Prim.Native.Nat.{ℕ, zero, suc, _+_, _*_, _^_, _<_, _≤_}
 use lib.Dec.{eqb, leb, ltb}
 use lib.ListN.{length}
+use Rattle.std.specs.Results.{isOk}
 use Rattle.std.specs.declared.result.Result.{Result}
 use Rattle.std.specs.declared.result.Result.the-variants.{Ok, Err}
 use Rattle.machines.specs.declared.refusal.Refusal.{Refusal}
@@ -87,7 +88,7 @@ pub record EdgeRecord (bs : List ℕ) (at : ℕ) : Type 0 where
   pub resets : resets-of bs at < 2 ^ clocks-of bs
   pub atoms : (i : ℕ) → i < count-of bs at → AtomRecord bs (atom-place at i)
 
--- edges from a place to the end of the file, at most `room` of them, of which none leaves a location below the one before it
+-- edges from a place to the end of the file, at most `room` of them; none leaves a location below `previous`, which the one before it leaves
 pub data Chain (bs : List ℕ) : ℕ → ℕ → ℕ → Type 0 where
   ended : (room previous at : ℕ) → at ≡ length bs → Chain bs room previous at
   edged : (room previous at : ℕ) → EdgeRecord bs at → previous ≤ from-of bs at
@@ -98,34 +99,38 @@ pub record LawfulFile (bs : List ℕ) : Type 0 where
   pub head : HeadRecord bs
   pub edges : Chain bs 1024 0 8
 
--- ---- the tests of the record at a place, by the number of the refusal
+-- ---- the tests of a record, each under the number of its refusal
+
+-- 1: four bytes are left for the record, and it is 4 bytes or more and ends within the file
+unfoldable pub framed : List ℕ → ℕ → Bool
+framed bs at = leb (at + 4) (length bs) && leb 4 (size-of bs at) && leb (at + size-of bs at) (length bs)
+
+-- of the head
+
+-- 2: it is a head
+unfoldable pub head-kind : List ℕ → Bool
+head-kind bs = eqb (kind-of bs 0) 1
+
+-- 3: its length is 8, and its spare byte is zero
+unfoldable pub head-shape : List ℕ → Bool
+head-shape bs = eqb (size-of bs 0) 8 && eqb (byte bs 7) 0
+
+-- 4: there are 1 to 256 locations and at most 4 clocks
+unfoldable pub head-range : List ℕ → Bool
+head-range bs = leb 1 (locations-of bs) && leb (locations-of bs) 256 && leb (clocks-of bs) 4
+
+-- of an edge, with its atoms
 
 -- the test holds of each of the first n atoms of the edge at a place
 abbrev pub each-atom : (List ℕ → ℕ → Bool) → List ℕ → ℕ → ℕ → Bool
 each-atom test bs at zero = true
 each-atom test bs at (suc n) = test bs (atom-place at n) && each-atom test bs at n
 
--- 1: four bytes are left, the length is 4 or more, and the record ends within the file
-unfoldable pub framed : List ℕ → ℕ → Bool
-framed bs at = leb (at + 4) (length bs) && leb 4 (size-of bs at) && leb (at + size-of bs at) (length bs)
-
--- 2
-unfoldable pub head-kind : List ℕ → Bool
-head-kind bs = eqb (kind-of bs 0) 1
-
--- 3
-unfoldable pub head-shape : List ℕ → Bool
-head-shape bs = eqb (size-of bs 0) 8 && eqb (byte bs 7) 0
-
--- 4
-unfoldable pub head-range : List ℕ → Bool
-head-range bs = leb 1 (locations-of bs) && leb (locations-of bs) 256 && leb (clocks-of bs) 4
-
--- 2: an edge, and there is room for one
+-- 2: it is an edge, and there is room for one
 unfoldable pub edge-kind : List ℕ → ℕ → ℕ → Bool
 edge-kind bs at room = eqb (kind-of bs at) 2 && ltb 0 room
 
--- 3: a record too short to have its count is never as long as any count says
+-- 3: its length fits its count, which that of a record too short for a count never does, and its spare bytes are zero
 unfoldable pub atom-shape : List ℕ → ℕ → Bool
 atom-shape bs p = eqb (two-bytes bs (p + 2)) 0
 
@@ -133,14 +138,14 @@ unfoldable pub edge-shape : List ℕ → ℕ → Bool
 edge-shape bs at =
     eqb (size-of bs at) (12 + 8 * count-of bs at) && eqb (byte bs (at + 11)) 0 && each-atom atom-shape bs at (count-of bs at)
 
--- 4
+-- 4: its label is at most 31, it has at most 4 atoms, and each compares by 0 to 3 with at most 100,000
 unfoldable pub atom-range : List ℕ → ℕ → Bool
 atom-range bs p = leb (comparison-of bs p) 3 && leb (constant-of bs p) 100000
 
 unfoldable pub edge-range : List ℕ → ℕ → Bool
 edge-range bs at = leb (label-of bs at) 31 && leb (count-of bs at) 4 && each-atom atom-range bs at (count-of bs at)
 
--- 5
+-- 5: there are the locations, the clocks that it resets, and the clock of each atom
 unfoldable pub atom-known : List ℕ → ℕ → Bool
 atom-known bs p = ltb (clock-of bs p) (clocks-of bs)
 
@@ -149,33 +154,34 @@ edge-known bs at =
     ltb (from-of bs at) (locations-of bs) && ltb (to-of bs at) (locations-of bs) && ltb (resets-of bs at) (2 ^ clocks-of bs)
     && each-atom atom-known bs at (count-of bs at)
 
--- 6
+-- 6: it leaves no location below the one that the edge before it leaves
 unfoldable pub edge-order : List ℕ → ℕ → ℕ → Bool
 edge-order bs at previous = leb previous (from-of bs at)
 
 -- ---- the tests in their order
 
-abbrev pub Verdict : Type 0
-Verdict = Result (Unit {0}) Refusal
+abbrev pub Outcome : Type 0
+Outcome = Result (Unit {0}) Refusal
 
--- where the test fails its refusal, and else what follows
-abbrev pub try : Bool → Refusal → Verdict → Verdict
+-- what follows, or where the test fails its refusal
+abbrev pub try : Bool → Refusal → Outcome → Outcome
 try true e next = next
 try false e next = Err e
 
-abbrev pub then : Verdict → Verdict → Verdict
+-- one outcome, and where that is no refusal the next
+abbrev pub then : Outcome → Outcome → Outcome
 then (Ok u) next = next
 then (Err e) next = Err e
 
-unfoldable pub head-verdict : List ℕ → Verdict
+unfoldable pub head-verdict : List ℕ → Outcome
 head-verdict bs =
     try (framed bs 0) (Frame 0)
     (try (head-kind bs) (Kind 0)
     (try (head-shape bs) (Shape 0)
     (try (head-range bs) (Range 0) (Ok tt))))
 
--- of the edge at a place, where there is room for so many more, and the edge before it leaves `previous`
-unfoldable pub edge-verdict : List ℕ → ℕ → ℕ → ℕ → Verdict
+-- of the edge at a place, where `room` more may come, and the edge before it leaves `previous`
+unfoldable pub edge-verdict : List ℕ → ℕ → ℕ → ℕ → Outcome
 edge-verdict bs at room previous =
     try (framed bs at) (Frame at)
     (try (edge-kind bs at room) (Kind at)
@@ -184,16 +190,19 @@ edge-verdict bs at room previous =
     (try (edge-known bs at) (Missing at)
     (try (edge-order bs at previous) (Order at) (Ok tt))))))
 
--- of the edges from a place to the end; without room the first is refused
-unfoldable pub edges-verdict : ℕ → List ℕ → ℕ → ℕ → Verdict
+-- of the edges from a place to the end of the file; where no more may come the first is refused
+unfoldable pub edges-verdict : ℕ → List ℕ → ℕ → ℕ → Outcome
 edges-verdict zero bs at previous = cond (eqb at (length bs)) (Ok tt) (edge-verdict bs at 0 previous)
 edges-verdict (suc room) bs at previous =
     cond (eqb at (length bs)) (Ok tt)
     (then (edge-verdict bs at (suc room) previous) (edges-verdict room bs (at + size-of bs at) (from-of bs at)))
 
--- of a file; an empty one has no head
-unfoldable pub verdict : List ℕ → Verdict
+-- of a file: at most 65,536 bytes, of which there are some, a head, and at most 1,024 edges
+unfoldable pub verdict : List ℕ → Outcome
 verdict bs =
     try (leb (length bs) 65536) (Frame 0)
     (try (ltb 0 (length bs)) (Kind 0)
     (then (head-verdict bs) (edges-verdict 1024 bs 8 0)))
+
+abbrev pub Accepted : List ℕ → Type 0
+Accepted bs = isOk (verdict bs) ≡ true

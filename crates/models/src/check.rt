@@ -1,14 +1,14 @@
-// Why a file is refused, or that it is not.
+// Why a file is refused, or that it is not. Each test is named after the one that it is in specs/Format.antt.
 ghost use mathlib.Core.Path.{_≡_};
 ghost use Prim.Native.Nat.{_≤_};
 ghost use lib.ListN.{length};
-ghost use Rattle.models.specs.Format.{clocks-of, count-of, atom-place, framed, head-shape, head-range, each-atom, atom-shape, edge-shape, atom-range, edge-range, atom-known, edge-known, head-verdict, edge-verdict, edges-verdict, verdict};
+ghost use Rattle.models.specs.Format.{clocks-of, framed, head-shape, head-range, each-atom, atom-shape, edge-shape, atom-range, edge-range, atom-known, edge-known, head-verdict, edge-verdict, edges-verdict, verdict};
+use crate::layout::*;
 use crate::numbers::byte_at;
 use crate::numbers::u16_at;
 use crate::numbers::u32_at;
 use machines::refusal::Refusal;
 
-// Whether a record that begins at `at` is whole.
 fn is_framed(bytes: &[u8], at: usize) -> bool
     requires { ⌜ at ≤ length (now bytes) ⌝ }
     ensures { λ r. ⌜ r ≡ framed (now (bytes .entry)) at ⌝ }
@@ -22,15 +22,15 @@ fn head_shape(bytes: &[u8]) -> bool
     ensures { λ r. ⌜ r ≡ head-shape (now (bytes .entry)) ⌝ }
 {
     let size = u16_at(bytes, 0);
-    let spare = byte_at(bytes, 7);
+    let spare = byte_at(bytes, HEAD_SPARE);
     size == 8 && spare == 0
 }
 
 fn head_range(bytes: &[u8]) -> bool
     ensures { λ r. ⌜ r ≡ head-range (now (bytes .entry)) ⌝ }
 {
-    let locations = u16_at(bytes, 4);
-    let clocks = byte_at(bytes, 6);
+    let locations = u16_at(bytes, LOCATIONS);
+    let clocks = byte_at(bytes, CLOCKS);
     1 <= locations && locations <= 256 && clocks <= 4
 }
 
@@ -40,7 +40,7 @@ fn check_head(bytes: &[u8]) -> Result<(), Refusal>
     if !is_framed(bytes, 0) {
         return Err(Refusal::Frame(0));
     }
-    if u16_at(bytes, 2) != 1 {
+    if u16_at(bytes, KIND) != 1 {
         return Err(Refusal::Kind(0));
     }
     if !head_shape(bytes) {
@@ -52,20 +52,12 @@ fn check_head(bytes: &[u8]) -> Result<(), Refusal>
     Ok(())
 }
 
-// The place of atom `i` of the edge at `at`.
-pub(crate) fn atom_place(at: usize, i: u8) -> usize
-    requires { ⌜ at ≤ 65536 ⌝ }
-    ensures { λ r. ⌜ r ≡ atom-place at i ⌝ }
-{
-    at + 12 + 8 * i as usize
-}
-
 fn atoms_shape(bytes: &[u8], at: usize, count: u8) -> bool
     requires { ⌜ at ≤ 65536 ⌝ }
     ensures { λ r. ⌜ r ≡ each-atom atom-shape (now (bytes .entry)) at count ⌝ }
 {
     for i in 0..count {
-        if u16_at(bytes, atom_place(at, i) + 2) != 0 {
+        if u16_at(bytes, atom_place(at, i) + ATOM_SPARE) != 0 {
             return false;
         }
     }
@@ -77,8 +69,8 @@ fn edge_shape(bytes: &[u8], at: usize) -> bool
     ensures { λ r. ⌜ r ≡ edge-shape (now (bytes .entry)) at ⌝ }
 {
     let size = u16_at(bytes, at) as usize;
-    let count = byte_at(bytes, at + 10);
-    let spare = byte_at(bytes, at + 11);
+    let count = byte_at(bytes, at + COUNT);
+    let spare = byte_at(bytes, at + EDGE_SPARE);
     if size != 12 + 8 * count as usize || spare != 0 {
         return false;
     }
@@ -89,8 +81,8 @@ fn atom_range(bytes: &[u8], place: usize) -> bool
     requires { ⌜ place ≤ 131072 ⌝ }
     ensures { λ r. ⌜ r ≡ atom-range (now (bytes .entry)) place ⌝ }
 {
-    let comparison = byte_at(bytes, place + 1);
-    let constant = u32_at(bytes, place + 4);
+    let comparison = byte_at(bytes, place + COMPARISON);
+    let constant = u32_at(bytes, place + CONSTANT);
     comparison <= 3 && constant <= 100_000
 }
 
@@ -110,8 +102,8 @@ fn edge_range(bytes: &[u8], at: usize) -> bool
     requires { ⌜ at ≤ 65536 ⌝ }
     ensures { λ r. ⌜ r ≡ edge-range (now (bytes .entry)) at ⌝ }
 {
-    let label = byte_at(bytes, at + 8);
-    let count = byte_at(bytes, at + 10);
+    let label = byte_at(bytes, at + LABEL);
+    let count = byte_at(bytes, at + COUNT);
     if label > 31 || count > 4 {
         return false;
     }
@@ -122,7 +114,7 @@ fn atoms_known(bytes: &[u8], at: usize, count: u8) -> bool
     requires { ⌜ at ≤ 65536 ⌝ }
     ensures { λ r. ⌜ r ≡ each-atom atom-known (now (bytes .entry)) at count ⌝ }
 {
-    let clocks = byte_at(bytes, 6);
+    let clocks = byte_at(bytes, CLOCKS);
     for i in 0..count {
         if byte_at(bytes, atom_place(at, i)) >= clocks {
             return false;
@@ -135,19 +127,19 @@ fn edge_known(bytes: &[u8], at: usize) -> bool
     requires { ⌜ at ≤ 65536 ⌝ ∗ ⌜ clocks-of (now bytes) ≤ 4 ⌝ }
     ensures { λ r. ⌜ r ≡ edge-known (now (bytes .entry)) at ⌝ }
 {
-    let locations = u16_at(bytes, 4);
-    let from = u16_at(bytes, at + 4);
-    let to = u16_at(bytes, at + 6);
-    let resets = byte_at(bytes, at + 9) as u32;
-    let known = 1u32 << byte_at(bytes, 6);
+    let locations = u16_at(bytes, LOCATIONS);
+    let from = u16_at(bytes, at + FROM);
+    let to = u16_at(bytes, at + TO);
+    let resets = byte_at(bytes, at + RESETS) as u32;
+    let known = 1u32 << byte_at(bytes, CLOCKS);
     if from >= locations || to >= locations || resets >= known {
         return false;
     }
-    let count = byte_at(bytes, at + 10);
+    let count = byte_at(bytes, at + COUNT);
     atoms_known(bytes, at, count)
 }
 
-// Checks the edge at `at`, where `room` more may come, and the edge before it leaves `previous`.
+// The edge at `at`, where `room` more may come, and the edge before it leaves `previous`.
 fn check_edge(bytes: &[u8], at: usize, room: u32, previous: u16) -> Result<(), Refusal>
     requires { ⌜ at ≤ length (now bytes) ⌝ ∗ ⌜ length (now bytes) ≤ 65536 ⌝ ∗ ⌜ clocks-of (now bytes) ≤ 4 ⌝ }
     ensures { λ r. ⌜ r ≡ edge-verdict (now (bytes .entry)) at room previous ⌝ }
@@ -155,7 +147,7 @@ fn check_edge(bytes: &[u8], at: usize, room: u32, previous: u16) -> Result<(), R
     if !is_framed(bytes, at) {
         return Err(Refusal::Frame(at));
     }
-    if u16_at(bytes, at + 2) != 2 || room == 0 {
+    if u16_at(bytes, at + KIND) != 2 || room == 0 {
         return Err(Refusal::Kind(at));
     }
     if !edge_shape(bytes, at) {
@@ -167,13 +159,13 @@ fn check_edge(bytes: &[u8], at: usize, room: u32, previous: u16) -> Result<(), R
     if !edge_known(bytes, at) {
         return Err(Refusal::Missing(at));
     }
-    if u16_at(bytes, at + 4) < previous {
+    if u16_at(bytes, at + FROM) < previous {
         return Err(Refusal::Order(at));
     }
     Ok(())
 }
 
-// Checks the edges after the head.
+// The edges after the head.
 fn check_edges(bytes: &[u8]) -> Result<(), Refusal>
     requires { ⌜ 8 ≤ length (now bytes) ⌝ ∗ ⌜ length (now bytes) ≤ 65536 ⌝ ∗ ⌜ clocks-of (now bytes) ≤ 4 ⌝ }
     ensures { λ r. ⌜ r ≡ edges-verdict 1024 (now (bytes .entry)) 8 0 ⌝ }
@@ -184,13 +176,13 @@ fn check_edges(bytes: &[u8]) -> Result<(), Refusal>
     while at < bytes.len() {
         check_edge(bytes, at, room, previous)?;
         room -= 1;
-        previous = u16_at(bytes, at + 4);
+        previous = u16_at(bytes, at + FROM);
         at += u16_at(bytes, at) as usize;
     }
     Ok(())
 }
 
-// Checks a whole file.
+// The whole file.
 pub(crate) fn check_file(bytes: &[u8]) -> Result<(), Refusal>
     ensures { λ r. ⌜ r ≡ verdict (now (bytes .entry)) ⌝ }
 {

@@ -5,7 +5,7 @@ use Prim.Native.Nat.{ℕ, _+_, _≤_}
 use native.Mathlib.Omega.{arith}
 use lib.ListN.{length}
 use Rattle.std.proofs.shelf.Lists.{getD-past}
-use Rattle.models.specs.Numbers.{byte, two-bytes, four-bytes}
+use Rattle.models.specs.Numbers.{two-bytes, four-bytes}
 
 pub two-past : (bs : List ℕ) (at : ℕ) → length bs ≤ at → two-bytes bs at ≡ 0
 unfolding two-bytes

@@ -1,7 +1,7 @@
 -- A file is accepted exactly where it is lawful in the format's own words.
-use mathlib.Core.Path.{_≡_, refl, sym, ap, subst, _∙_}
+use mathlib.Core.Path.{_≡_, refl, sym, ap, _∙_}
 use mathlib.Core.List.{List}
-use mathlib.Core.Bool.{Bool, true, false, cond, _&&_}
+use mathlib.Core.Bool.{Bool, true, false, _&&_}
 use mathlib.Core.Logic.{inl, inr}
 use Prim.Native.Nat.{ℕ, zero, suc, _+_, _-_, _*_, _^_, _<_, _≤_}
 use native.Mathlib.Omega.{arith}
@@ -12,29 +12,29 @@ use Rattle.std.specs.Results.{isOk}
 use Rattle.std.specs.declared.result.Result.the-variants.{Ok, Err}
 use Rattle.machines.specs.declared.refusal.Refusal.{Refusal}
 use Rattle.machines.specs.declared.refusal.Refusal.the-variants.{Frame, Kind}
-use Rattle.models.specs.Numbers.{byte, two-bytes}
-use Rattle.models.specs.Format.{size-of, kind-of, locations-of, clocks-of, from-of, to-of, label-of, resets-of, count-of, atom-place, clock-of, comparison-of, constant-of, HeadRecord, AtomRecord, EdgeRecord, Chain, ended, edged, LawfulFile, framed, head-kind, head-shape, head-range, each-atom, edge-kind, atom-shape, edge-shape, atom-range, edge-range, atom-known, edge-known, edge-order, Verdict, try, then, head-verdict, edge-verdict, edges-verdict, verdict}
+use Rattle.models.specs.Numbers.{byte}
+use Rattle.models.specs.Format.{size-of, kind-of, locations-of, clocks-of, from-of, to-of, label-of, resets-of, count-of, atom-place, comparison-of, constant-of, HeadRecord, AtomRecord, EdgeRecord, Chain, ended, edged, LawfulFile, framed, head-kind, head-shape, head-range, each-atom, edge-kind, atom-shape, edge-shape, atom-range, edge-range, atom-known, edge-known, edge-order, Outcome, try, then, head-verdict, edge-verdict, edges-verdict, verdict, Accepted}
 use Rattle.models.specs.laws.Atoms.{each-holds, each-from}
 
 -- ---- verdicts
 
-tried : (b : Bool) (e : Refusal) (next : Verdict) → try b e next ≡ Ok tt → (b ≡ true) × (next ≡ Ok tt)
+tried : (b : Bool) (e : Refusal) (next : Outcome) → try b e next ≡ Ok tt → (b ≡ true) × (next ≡ Ok tt)
 tried true e next h = (refl, h)
 tried false e next h = absurd (let z : _≡_ {A = ℕ} 0 1 = cc in omega arith)
 
-passed : (b : Bool) (e : Refusal) (next : Verdict) → b ≡ true → next ≡ Ok tt → try b e next ≡ Ok tt
+passed : (b : Bool) (e : Refusal) (next : Outcome) → b ≡ true → next ≡ Ok tt → try b e next ≡ Ok tt
 passed b e next t h = ap (λ b. try b e next) t ∙ h
 
-both-ok : (r next : Verdict) → then r next ≡ Ok tt → (r ≡ Ok tt) × (next ≡ Ok tt)
+both-ok : (r next : Outcome) → then r next ≡ Ok tt → (r ≡ Ok tt) × (next ≡ Ok tt)
 both-ok (Ok u) next h = (refl, h)
 both-ok (Err e) next h = absurd (let z : _≡_ {A = ℕ} 0 1 = cc in omega arith)
 
-pub ok-from : (r : Verdict) → isOk r ≡ true → r ≡ Ok tt
+ok-from : (r : Outcome) → isOk r ≡ true → r ≡ Ok tt
 ok-from (Ok u) h = refl
 ok-from (Err e) h = absurd (let z : _≡_ {A = ℕ} 0 1 = cc in omega arith)
 
 -- a refusal stands, whatever follows
-stands : (a b : Bool) (e f : Refusal) (rest next : Verdict) → b ≡ false → then (try a e (try b f rest)) next ≡ try a e (try b f rest)
+stands : (a b : Bool) (e f : Refusal) (rest next : Outcome) → b ≡ false → then (try a e (try b f rest)) next ≡ try a e (try b f rest)
 stands false b e f rest next h = refl
 stands true false e f rest next h = refl
 stands true true e f rest next h = absurd (let z : _≡_ {A = ℕ} 0 1 = cc in omega arith)
@@ -200,7 +200,7 @@ module _ (bs : List ℕ) where
   edges-done zero at previous h = cond-true (eqb at (length bs)) _ _ (eq-eqb _ _ h)
   edges-done (suc room) at previous h = cond-true (eqb at (length bs)) _ _ (eq-eqb _ _ h)
 
-  no-room : (at previous : ℕ) (next : Verdict) → then (edge-verdict bs at 0 previous) next ≡ edge-verdict bs at 0 previous
+  no-room : (at previous : ℕ) (next : Outcome) → then (edge-verdict bs at 0 previous) next ≡ edge-verdict bs at 0 previous
   unfolding edge-verdict edge-kind
   no-room at previous next = stands (framed bs at) (eqb (kind-of bs at) 2 && ltb 0 0) (Frame at) (Kind at) _ next (and-right _ _ refl)
 
@@ -249,18 +249,18 @@ module _ (bs : List ℕ) where
   -- ---- the file
 
   -- an accepted file is small, and its head and its edges are accepted
-  pub accepted-parts : verdict bs ≡ Ok tt → (length bs ≤ 65536) × HeadRecord bs × (edges-verdict 1024 bs 8 0 ≡ Ok tt)
+  pub accepted-parts : Accepted bs → (length bs ≤ 65536) × HeadRecord bs × (edges-verdict 1024 bs 8 0 ≡ Ok tt)
   unfolding verdict
   accepted-parts h =
-      let t1 = tried (leb (length bs) 65536) _ _ h in
+      let t1 = tried (leb (length bs) 65536) _ _ (ok-from (verdict bs) h) in
       let t2 = tried (ltb 0 (length bs)) _ _ (t1 .1) in
       let p = both-ok (head-verdict bs) _ (t2 .1) in (leb-true _ _ (t1 .0), head-from (p .0), p .1)
 
-  pub lawful-from : verdict bs ≡ Ok tt → LawfulFile bs
+  pub lawful-from : Accepted bs → LawfulFile bs
   lawful-from h = let p = accepted-parts h in record { small = p .0; head = p .1; edges = chain-from 1024 8 0 (p .2) }
 
-  pub lawful-to : LawfulFile bs → verdict bs ≡ Ok tt
+  pub lawful-to : LawfulFile bs → Accepted bs
   unfolding verdict
   lawful-to w =
-      passed _ _ _ (le-leb _ _ (w .small)) (passed _ _ _ (lt-ltb _ _ (omega (arith, w .head .whole)))
-      (ap (λ r. then r (edges-verdict 1024 bs 8 0)) (head-to (w .head)) ∙ chain-to 1024 0 8 (w .edges)))
+      ap isOk (passed _ _ _ (le-leb _ _ (w .small)) (passed _ _ _ (lt-ltb _ _ (omega (arith, w .head .whole)))
+      (ap (λ r. then r (edges-verdict 1024 bs 8 0)) (head-to (w .head)) ∙ chain-to 1024 0 8 (w .edges))))

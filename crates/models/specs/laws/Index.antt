@@ -1,6 +1,6 @@
 -- The edges of a location, by the counts below it.
-use mathlib.Core.Path.{_≡_, refl, sym, ap, _∙_}
-use mathlib.Core.List.{List, [], _∷_, map}
+use mathlib.Core.Path.{_≡_, refl, ap, _∙_}
+use mathlib.Core.List.{List, map}
 use Prim.Native.Nat.{ℕ, _+_, _-_, _≤_, _<_, max}
 use native.Mathlib.Omega.{arith}
 use lib.ListN.{length, getD}
@@ -9,8 +9,7 @@ use Rattle.std.proofs.shelf.Sums.{folded-push}
 use Rattle.std.specs.Finite.{nth}
 use Rattle.std.specs.Iters.{counting, folded}
 use Rattle.std.specs.declared.option.Option.the-variants.{Some, None}
-use Rattle.std.specs.declared.result.Result.the-variants.{Ok}
-use Rattle.models.specs.Format.{from-of, verdict}
+use Rattle.models.specs.Format.{from-of, Accepted}
 use Rattle.models.specs.Model.{places-of, places-at, widest}
 use Rattle.models.specs.Index.{below}
 use Rattle.models.specs.laws.Places.{places-sorted}
@@ -35,7 +34,7 @@ module _ (bs : List ℕ) where
       let count : ℕ → ℕ = λ l. length (places-at bs l) in
       ap (folded max 0) (map-counting-more count 0 n n (omega arith)) ∙ folded-push max 0 (map count (counting 0 n)) (count n)
 
-  module _ (ok : verdict bs ≡ Ok tt) where
+  module _ (ok : Accepted bs) where
     pub below-is : (l i : ℕ) → i ≤ length (places-of bs) → ((k : ℕ) → k < i → from-of bs (getD (places-of bs) k 0) < l)
         → (i < length (places-of bs) → l ≤ from-of bs (getD (places-of bs) i 0)) → below bs l ≡ i
     unfolding below

@@ -2,26 +2,25 @@
 use mathlib.Core.Path.{_≡_, refl, sym, ap, subst, _∙_}
 use mathlib.Core.List.{List, [], _∷_, map}
 use mathlib.Core.Bool.{Bool, true, false, cond}
-use mathlib.Core.Logic.{_⊎_, inl, inr}
+use mathlib.Core.Logic.{inl, inr}
 use Prim.Native.Nat.{ℕ, zero, suc, _+_, _^_, _≤_, _<_, max}
 use native.Mathlib.Nat.{le-max-left, le-max-right, max-le}
 use native.Mathlib.Omega.{arith}
 use lib.Dec.{eqb}
-use lib.ListN.{length, getD}
-use Rattle.std.proofs.shelf.Counted.{length-counting, length-map-counting, getD-map-counting}
+use lib.ListN.{length}
+use Rattle.std.proofs.shelf.Counted.{length-map-counting, getD-map-counting}
 use Rattle.std.proofs.shelf.Elements.{all-kept-by, all-map, all-getD, all-weaker}
 use Rattle.std.proofs.shelf.Lists.{length-map, getD-past}
 use Rattle.std.proofs.shelf.Tests.{cases-lt, eq-eqb, ne-eqb}
 use Rattle.std.specs.Finite.{nth}
 use Rattle.std.specs.Iters.{counting, folded}
 use Rattle.std.specs.Options.{mapped}
-use Rattle.std.specs.shelf.Lists.{All, kept-by}
-use Rattle.std.specs.declared.option.Option.the-variants.{Some, None}
-use Rattle.std.specs.declared.result.Result.the-variants.{Ok}
+use Rattle.std.specs.shelf.Lists.{All}
+use Rattle.std.specs.declared.option.Option.the-variants.{Some}
 use Rattle.machines.specs.Automaton.{Atom, Edge, bit, leaving, edge-at, on-clock, LawfulAtom, LawfulEdge, Carried, Lawful}
 use Rattle.machines.specs.laws.Lists.{nth-map, from-map, all-nth, Stands, stands-kept, length-kept}
 use Rattle.machines.specs.laws.Masks.{bit-below}
-use Rattle.models.specs.Format.{locations-of, clocks-of, from-of, label-of, count-of, atom-place, HeadRecord, EdgeRecord, verdict}
+use Rattle.models.specs.Format.{locations-of, from-of, label-of, count-of, atom-place, HeadRecord, EdgeRecord, Accepted}
 use Rattle.models.specs.Model.{places-of, places-at, atom-read, edge-read, widest, labels-of, model}
 use Rattle.models.specs.laws.Files.{accepted-parts}
 use Rattle.models.specs.laws.Places.{places-lawful, few-edges}
@@ -62,7 +61,7 @@ all-both : (P Q R : ℕ → Type 0) → ((x : ℕ) → P x → Q x → R x) → 
 all-both P Q R f [] p q = tt
 all-both P Q R f (x ∷ xs) p q = (f x (p .0) (q .0), all-both P Q R f xs (p .1) (q .1))
 
-module _ (bs : List ℕ) (ok : verdict bs ≡ Ok tt) where
+module _ (bs : List ℕ) (ok : Accepted bs) where
   head : HeadRecord bs
   head = accepted-parts bs ok .1
 

@@ -1,16 +1,14 @@
 -- The places of the edges of an accepted file.
-use mathlib.Core.Path.{_≡_, refl, sym, ap, subst, _∙_}
+use mathlib.Core.Path.{_≡_, refl, ap, _∙_}
 use mathlib.Core.List.{List, [], _∷_}
 use mathlib.Core.Bool.{true, false, cond}
-use mathlib.Core.Logic.{inl, inr}
 use Prim.Native.Nat.{ℕ, zero, suc, _+_, _-_, _≤_, _<_}
 use native.Mathlib.Omega.{arith}
 use lib.Dec.{eqb}
 use lib.ListN.{length}
-use Rattle.std.proofs.shelf.Tests.{cases-eq, eq-eqb, ne-eqb, cond-true, cond-false}
+use Rattle.std.proofs.shelf.Tests.{eq-eqb, ne-eqb, cond-true, cond-false}
 use Rattle.std.specs.shelf.Lists.{All}
-use Rattle.std.specs.declared.result.Result.the-variants.{Ok}
-use Rattle.models.specs.Format.{size-of, from-of, EdgeRecord, Chain, ended, edged, verdict}
+use Rattle.models.specs.Format.{size-of, from-of, EdgeRecord, Chain, ended, edged, Accepted}
 use Rattle.models.specs.Model.{places-from, places-of}
 use Rattle.models.specs.laws.Files.{lawful-from}
 use Rattle.models.specs.laws.Sorted.{Sorted}
@@ -48,7 +46,7 @@ module _ (bs : List ℕ) where
       let more = chain-places room (from-of bs at) (at + size-of bs at) rest in
       rw step ((e, more .0), (h, more .1))
 
-  module _ (ok : verdict bs ≡ Ok tt) where
+  module _ (ok : Accepted bs) where
     pub places-lawful : All (EdgeRecord bs) (places-of bs)
     unfolding places-of
     places-lawful = chain-places 1024 0 8 (lawful-from bs ok .edges) .0

@@ -1,22 +1,20 @@
 -- What the questions answer of an accepted file.
-use mathlib.Core.Path.{_≡_, refl, sym, ap, ap₂, _∙_}
-use mathlib.Core.List.{List, [], map}
+use mathlib.Core.Path.{_≡_, sym, ap, _∙_}
+use mathlib.Core.List.{List, map}
 use Prim.Native.Nat.{ℕ, _+_, _-_, _≤_, _<_}
 use native.Mathlib.Omega.{arith}
 use lib.ListN.{length}
-use Rattle.std.proofs.shelf.Counted.{length-counting, length-map-counting, getD-counting, getD-map-counting}
+use Rattle.std.proofs.shelf.Counted.{length-counting, length-map-counting, getD-counting}
 use Rattle.std.proofs.shelf.Elements.{all-kept-by}
 use Rattle.std.proofs.shelf.Lists.{length-map}
 use Rattle.std.proofs.shelf.Maps.{nth-getD, nth-past}
 use Rattle.std.specs.Finite.{nth}
 use Rattle.std.specs.Iters.{counting}
 use Rattle.std.specs.Options.{mapped}
-use Rattle.std.specs.declared.option.Option.{Option}
 use Rattle.std.specs.declared.option.Option.the-variants.{Some, None}
-use Rattle.std.specs.declared.result.Result.the-variants.{Ok}
-use Rattle.machines.specs.Automaton.{Atom, Edge, edge-count, head, head-at, parts, atom-of, atom-at}
+use Rattle.machines.specs.Automaton.{edge-count, head, head-at, parts, atom-of, atom-at}
 use Rattle.machines.specs.laws.Lists.{nth-map, all-nth}
-use Rattle.models.specs.Format.{locations-of, from-of, to-of, label-of, resets-of, count-of, atom-place, clock-of, comparison-of, constant-of, EdgeRecord, verdict}
+use Rattle.models.specs.Format.{locations-of, from-of, to-of, label-of, resets-of, count-of, atom-place, clock-of, comparison-of, constant-of, EdgeRecord, Accepted}
 use Rattle.models.specs.Model.{places-of, places-at, atom-read, edge-read, model}
 use Rattle.models.specs.Index.{below}
 use Rattle.models.specs.laws.Files.{accepted-parts}
@@ -30,7 +28,7 @@ nth-counted f n i h =
     nth-map f (counting 0 n) i
     ∙ ap (mapped f) (nth-getD (counting 0 n) i 0 (omega (arith, length-counting 0 n)) ∙ ap Some (getD-counting 0 n i 0 h ∙ omega arith))
 
-module _ (bs : List ℕ) (ok : verdict bs ≡ Ok tt) where
+module _ (bs : List ℕ) (ok : Accepted bs) where
   pub count-answer : (l : ℕ) → l < locations-of bs → Some (below bs (l + 1) - below bs l) ≡ edge-count (model bs) l
   count-answer l h =
       sym (ap (mapped length) (nth-counted (λ l. map (edge-read bs) (places-at bs l)) (locations-of bs) l h)

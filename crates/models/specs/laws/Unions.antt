@@ -1,18 +1,16 @@
 -- Masks that are joined one label at a time.
-use mathlib.Core.Path.{_≡_, refl, sym, ap, ap₂, subst, _∙_}
+use mathlib.Core.Path.{_≡_, refl, sym, ap, _∙_}
 use mathlib.Core.List.{List, [], _∷_}
 use mathlib.Core.Logic.{_⊎_, inl, inr}
 use Prim.Native.Nat.{ℕ, zero, suc, _+_, _-_, _*_, _/_, _%_, _^_, _≤_, _<_}
-use native.Mathlib.Nat.{pow-suc, one-mul}
+use native.Mathlib.Nat.{pow-suc}
 use native.Mathlib.Omega.{arith}
 use lib.Bits.{bitOr, or-lt, or-shr, or-mod}
 use lib.Pow.{pow-add, pow-lt}
 use Rattle.std.proofs.shelf.Bits.{shl-shr}
-use Rattle.std.proofs.shelf.Tests.{cases-lt, cases-eq}
-use Rattle.std.specs.Finite.{nth}
+use Rattle.std.proofs.shelf.Tests.{cases-lt}
 use Rattle.std.specs.Iters.{folded}
 use Rattle.std.specs.shelf.Lists.{All}
-use Rattle.std.specs.declared.option.Option.the-variants.{Some}
 use Rattle.machines.specs.Automaton.{bit}
 use Rattle.machines.specs.laws.Lists.{Stands}
 use Rattle.machines.specs.laws.Masks.{bit-below}

@@ -1,10 +1,10 @@
-use mathlib.Core.Path.{_≡_, refl, sym, ap, ap₂, _∙_}
-use Prim.Native.Nat.{ℕ, _+_, _-_, _≤_, _<_}
+use mathlib.Core.Path.{_≡_, sym, ap, ap₂, _∙_}
+use Prim.Native.Nat.{_+_, _-_}
 use native.Mathlib.Omega.{arith}
 use lib.ListN.{length}
 use Rattle.std.proofs.shelf.Results.{err-from-errBy}
-use Rattle.std.specs.declared.result.Result.the-variants.{Ok, Err}
-use Rattle.models.specs.Format.{size-of, from-of, then, edge-verdict, edges-verdict}
+use Rattle.std.specs.declared.result.Result.the-variants.{Err}
+use Rattle.models.specs.Format.{size-of, from-of, then, edges-verdict}
 use Rattle.models.specs.laws.Files.{edge-from, edges-done, edges-step}
 use Rattle.models.proofs.check.check_edges.Needs as need
 

@@ -1,4 +1,4 @@
-use mathlib.Core.Path.{_≡_, ap}
+use mathlib.Core.Path.{ap}
 use mathlib.Core.Logic.{_≢_}
 use Prim.Native.Nat.{_<_}
 use native.Mathlib.Omega.{arith}
@@ -8,8 +8,8 @@ use lib.Seq.{getD-set-same, getD-set-other}
 use Rattle.models.specs.laws.Places.{few-edges}
 use Rattle.models.proofs.index.find_first.Needs as need
 
-pub cast-first : need.cast-first
-cast-first c = omega (arith, c .count-below-count .ensures .known .0, ap length (c .pre .1), few-edges (c .args .bytes .now))
+pub cast-slot : need.cast-slot
+cast-slot c = omega (arith, c .count-below-count .ensures .known .0, ap length (c .pre .1), few-edges (c .args .bytes .now))
 
 pub loop-l-again : need.loop-l-again
 loop-l-again c =

@@ -1,23 +1,22 @@
-use mathlib.Core.Path.{_≡_, refl, sym, ap, ap₂, subst, _∙_}
-use mathlib.Core.List.{List, [], _∷_, _++_}
-use Prim.Native.Nat.{ℕ, _+_, _-_, _≤_, _<_}
+use mathlib.Core.Path.{_≡_, refl, sym, ap, ap₂, _∙_}
+use mathlib.Core.List.{[], _∷_, _++_}
+use Prim.Native.Nat.{_+_, _-_}
 use native.Mathlib.Omega.{arith}
-use lib.ListN.{length, take, set}
+use lib.ListN.{length, take}
 use Rattle.std.proofs.shelf.Lists.{append-nil, append-assoc, take-more-set}
-use Rattle.std.specs.declared.result.Result.the-variants.{Ok}
-use Rattle.models.specs.Format.{size-of, from-of, EdgeRecord, edges-verdict, verdict}
+use Rattle.models.specs.Format.{size-of, from-of, edges-verdict}
 use Rattle.models.specs.Model.{places-from, places-of}
-use Rattle.models.specs.laws.Files.{ok-from, accepted-parts, edges-next}
+use Rattle.models.specs.laws.Files.{accepted-parts, edges-next}
 use Rattle.models.specs.laws.Places.{places-done, places-step}
 use Rattle.models.proofs.index.find_places.Needs as need
 
 pub loop-at-holds : need.loop-at-holds
 unfolding places-of
 loop-at-holds c =
-    let parts = accepted-parts (c .args .bytes .now) (ok-from _ (c .pre .0)) in (omega arith, parts .1 .whole, refl, (0, parts .2))
+    let parts = accepted-parts (c .args .bytes .now) (c .pre .0) in (omega arith, parts .1 .whole, refl, (0, parts .2))
 
 pub cast-places : need.cast-places
-cast-places c = let small = accepted-parts (c .args .bytes .now) (ok-from _ (c .pre .0)) .0 in omega arith
+cast-places c = let small = accepted-parts (c .args .bytes .now) (c .pre .0) .0 in omega arith
 
 pub index-places-n : need.index-places-n
 index-places-n c =

@@ -1,4 +1,4 @@
-use mathlib.Core.Path.{_≡_, sym}
+use mathlib.Core.Path.{sym}
 use borrow.Author.Needs.{needs}
 use Rattle.models.specs.Numbers.{four-bytes}
 use Rattle.models.specs.laws.Bytes.{four-past}

@@ -14,6 +14,4 @@ returns c = refl
 
 pub ghost-result : need.ghost-result
 unfolding two-bytes framed head-kind head-shape head-range head-verdict edges-verdict verdict
-ghost-result c =
-    let made = c .of .ensures in
-    (refl, (made .places, (made .edges, (made .first, (made .width, (made .labels, tt))))))
+ghost-result c = (refl, (c .of .ensures, tt))
