@@ -3,6 +3,7 @@ use mathlib.Core.Path.{_≡_, sym, ap, _∙_}
 use mathlib.Core.List.{List, map}
 use Prim.Native.Nat.{ℕ, _+_, _-_, _≤_, _<_}
 use native.Mathlib.Omega.{arith}
+use lib.Dec.{eqb}
 use lib.ListN.{length}
 use Rattle.std.proofs.shelf.Counted.{length-counting, length-map-counting, getD-counting}
 use Rattle.std.proofs.shelf.Elements.{all-kept-by}
@@ -21,7 +22,6 @@ use Rattle.models.specs.laws.Files.{accepted-parts}
 use Rattle.models.specs.laws.Index.{count-at}
 use Rattle.models.specs.laws.Models.{edge-at-is}
 use Rattle.models.specs.laws.Places.{places-lawful}
-use lib.Dec.{eqb}
 
 nth-counted : {X : Type 0} (f : ℕ → X) (n i : ℕ) → i < n → nth (map f (counting 0 n)) i ≡ Some (f i)
 nth-counted f n i h =
