@@ -8,13 +8,15 @@ use Rattle.std.specs.Results.{isOk}
 use Rattle.machines.specs.Automaton.{Automaton, bare}
 use Rattle.machines.specs.Deadline.{DeadlineArguments, deadline}
 use Rattle.models.specs.Format.{verdict}
-use Rattle.models.specs.Model.{model}
+use Rattle.models.specs.Model.{model, places-of}
 use Rattle.machines.specs.declared.machine.Summary.{Summary}
 use Rattle.machines.specs.declared.refusal.Refusal.{Refusal}
 use Rattle.machines.specs.Refusals.{Refused}
 use Rattle.pairs.specs.Product.{within-limits, product}
 use Rattle.std.specs.Results.{Cases}
 use Rattle.std.specs.declared.result.Result.{Result}
+use Rattle.std.specs.declared.result.Result.the-variants.{Ok, Err}
+use lib.ListN.{length}
 use Rattle.console.specs.declared.part.Part.{Part}
 use Rattle.console.specs.declared.part.Part.the-variants.{Table, Deadline}
 
@@ -26,6 +28,10 @@ IsPart (Deadline a b m c) A = (DeadlineArguments a b m c → A ≡ deadline a b 
 -- the numbers of the automaton as a whole
 abbrev pub Sums : Summary → Automaton → Type 0
 Sums s A = (s .locations ≡ A .locations) × (s .clocks ≡ A .clocks) × (s .width ≡ A .width) × (s .labels ≡ A .labels)
+
+-- what a model file is answered: the numbers of its machine and how many edges it has, or its refusal
+abbrev pub ModelRead : List ℕ → Result (Summary × ℕ) Refusal → Type 0
+ModelRead file r = Cases r (λ p. (verdict file ≡ Ok tt) × Sums (p .0) (model file) × (p .1 ≡ length (places-of file))) (λ e. verdict file ≡ Err e)
 
 -- what the pair of two parts is answered: its numbers, or 7 where it would be too large
 pub record Paired (left right : Part) (r : Result Summary Refusal) : Type 0 where

@@ -1,12 +1,5 @@
 // What a machine that a script makes is answered.
-ghost use mathlib.Core.Path.{_≡_};
-ghost use Rattle.std.specs.Results.{Cases};
-ghost use Rattle.std.specs.declared.result.Result.the-variants.{Ok, Err};
-ghost use Rattle.machines.specs.Automaton.{Automaton};
-ghost use Rattle.models.specs.Format.{verdict};
-ghost use Rattle.models.specs.Model.{model, places-of};
-ghost use Rattle.console.specs.Stations.{Sums, Paired};
-ghost use lib.ListN.{length};
+ghost use Rattle.console.specs.Stations.{ModelRead, Paired};
 use crate::part::Part;
 use crate::part::station;
 use machines::choice::ChoiceMachine;
@@ -21,7 +14,7 @@ use pairs::pair::PairMachine;
 
 // The numbers of the model file's machine and how many edges it has, or why it is refused.
 pub fn read_model(file: &[u8]) -> Result<(Summary, u32), Refusal>
-    ensures { λ r. ⌜ Cases r (λ p. (verdict (now (file .entry)) ≡ Ok tt) × Sums (p .0) (model (now (file .entry))) × (p .1 ≡ length (places-of (now (file .entry))))) (λ e. verdict (now (file .entry)) ≡ Err e) ⌝ }
+    ensures { λ r. ⌜ ModelRead (now (file .entry)) r ⌝ }
 {
     let mut table = Table::bare();
     table.load(file)?;

@@ -1,5 +1,4 @@
 // A machine as a script gives it, and the machine itself.
-ghost use mathlib.Core.Path.{_≡_};
 ghost use denote.Ref.{now as behind};
 ghost use mathlib.Core.Bool.{cond};
 ghost use Rattle.machines.specs.Deadline.{deadline};
@@ -8,7 +7,6 @@ ghost use Rattle.console.specs.Stations.{IsPart};
 use machines::choice::Choice;
 use machines::deadline::Deadline;
 use models::table::Table;
-use pairs::pair::Pair;
 
 // What a table or a deadline is made from.
 #[derive(Drop)]
@@ -21,9 +19,6 @@ pub enum Part {
 
 // A table or a deadline.
 pub type Station<'a> = Choice<Table<'a>, Deadline>;
-
-// A station, or a pair of two.
-pub type Line<'a> = Choice<Station<'a>, Pair<Station<'a>, Station<'a>>>;
 
 // Some deadline, for a station that is a table.
 fn any_deadline() -> Deadline {

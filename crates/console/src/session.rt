@@ -1,14 +1,17 @@
 // The names of a script and what they stand for.
 ghost use mathlib.Core.Path.{_≡_};
-ghost use mathlib.Core.List.{List, [], _∷_, _++_};
-ghost use Prim.Native.Nat.{ℕ};
+ghost use mathlib.Core.List.{[], _∷_, _++_};
 ghost use Rattle.std.specs.Finite.{nth};
 ghost use Rattle.std.specs.Options.{mapped};
-ghost use Rattle.std.specs.declared.option.Option.the-variants.{Some};
+ghost use Rattle.std.specs.Results.{isOk};
 ghost use Rattle.std.specs.Of.Vec.{vec-items, vec-len};
 ghost use Rattle.std.specs.Vec.{made};
-ghost use Rattle.console.specs.Names.{latest, is-table};
+ghost use Rattle.console.specs.Stations.{ModelRead};
+ghost use Rattle.console.specs.Names.{latest, Bound, Loaded};
+use crate::answer::read_model;
 use crate::part::Part;
+use machines::machine::Summary;
+use machines::refusal::Refusal;
 use std::alloc::AllocError;
 use std::alloc::Global;
 
@@ -65,35 +68,57 @@ impl Session {
         Some(&self.parts[i])
     }
 
-    // Whether the name stands for a table.
-    pub fn is_table(&self, name: &[u8]) -> bool
-        ensures { λ r. ⌜ r ≡ is-table (vec-items (now (self .entry) .parts)) (latest (now (name .entry)) (vec-items (now (self .entry) .entries))) ⌝ }
-    {
-        let Some(Named::Part(i)) = self.find(name) else {
-            return false;
-        };
-        matches!(self.part(i), Some(Part::Table(_)))
-    }
-
     // Gives the name to what there is.
-    pub fn bind(&mut self, heap: Global, name: &[u8], what: Named) -> Result<(), AllocError>
-        ensures parts { λ r. ⌜ vec-items (now (self .exit) .parts) ≡ vec-items (now (self .entry) .parts) ⌝ }
-        ensures bound { λ r. ⌜ made r (λ _. latest (now (name .entry)) (vec-items (now (self .exit) .entries)) ≡ Some what) ⌝ }
-        ensures others { λ r. ⌜ made r (λ _. (other : List ℕ) → (other ≡ now (name .entry) → ⊥) → latest other (vec-items (now (self .exit) .entries)) ≡ latest other (vec-items (now (self .entry) .entries))) ⌝ }
+    fn bind(&mut self, heap: Global, name: &[u8], what: Named) -> Result<(), AllocError>
+        ensures parts { λ _. ⌜ vec-items (now (self .exit) .parts) ≡ vec-items (now (self .entry) .parts) ⌝ }
+        ensures names { λ r. ⌜ Bound (isOk r) (now (name .entry)) what (vec-items (now (self .entry) .entries)) (vec-items (now (self .exit) .entries)) ⌝ }
     {
         let name = Vec::from_slice(heap, name)?;
         self.entries.push(Entry { name, what })?;
         Ok(())
     }
 
-    // Gives the name to a new part.
+    // Gives the name to a new part. Where memory fails no name changes.
     pub fn define(&mut self, heap: Global, name: &[u8], part: Part) -> Result<(), AllocError>
         ensures parts { λ r. ⌜ made r (λ _. vec-items (now (self .exit) .parts) ≡ vec-items (now (self .entry) .parts) ++ part ∷ []) ⌝ }
-        ensures bound { λ r. ⌜ made r (λ _. latest (now (name .entry)) (vec-items (now (self .exit) .entries)) ≡ Some (Named.Part (vec-len (now (self .entry) .parts)))) ⌝ }
-        ensures others { λ r. ⌜ made r (λ _. (other : List ℕ) → (other ≡ now (name .entry) → ⊥) → latest other (vec-items (now (self .exit) .entries)) ≡ latest other (vec-items (now (self .entry) .entries))) ⌝ }
+        ensures names { λ r. ⌜ Bound (isOk r) (now (name .entry)) (Named.Part (vec-len (now (self .entry) .parts))) (vec-items (now (self .entry) .entries)) (vec-items (now (self .exit) .entries)) ⌝ }
     {
         let number = self.parts.len();
         self.parts.push(part)?;
         self.bind(heap, name, Named::Part(number))
+    }
+
+    // Loads a table under the name and answers its numbers. Where the file is refused the name stands for what it did, and a
+    // new name for the bare table.
+    pub fn load(
+        &mut self,
+        heap: Global,
+        name: &[u8],
+        file: Vec<u8>,
+    ) -> Result<Result<(Summary, u32), Refusal>, AllocError>
+        ensures answer { λ r. ⌜ made r (λ a. ModelRead (vec-items file) a) ⌝ }
+        ensures names { λ r. ⌜ made r (λ a. Loaded (isOk a) (now (name .entry)) (Named.Part (vec-len (now (self .entry) .parts))) (vec-items (now (self .entry) .entries)) (vec-items (now (self .exit) .entries))) ⌝ }
+    {
+        let answer = read_model(file.as_slice());
+        if answer.is_ok() {
+            self.define(heap, name, Part::Table(file))?;
+        } else if self.find(name).is_none() {
+            self.define(heap, name, Part::Table(Vec::new(heap)))?;
+        }
+        Ok(answer)
+    }
+
+    // Gives the name to the pair of two parts. Where memory fails nothing changes.
+    pub fn join(
+        &mut self,
+        heap: Global,
+        name: &[u8],
+        left: usize,
+        right: usize,
+    ) -> Result<(), AllocError>
+        ensures parts { λ _. ⌜ vec-items (now (self .exit) .parts) ≡ vec-items (now (self .entry) .parts) ⌝ }
+        ensures names { λ r. ⌜ Bound (isOk r) (now (name .entry)) (Named.Pair left right) (vec-items (now (self .entry) .entries)) (vec-items (now (self .exit) .entries)) ⌝ }
+    {
+        self.bind(heap, name, Named::Pair(left, right))
     }
 }

@@ -1,4 +1,5 @@
--- The deadline automaton: after each label a, and until a label b, every label of m comes within c ticks.
+-- The deadline automaton: from a label a, and until the next b, that b included, labels come only within c ticks of that a; a further
+-- a does not start the time anew.
 use mathlib.Core.Path.{_≡_}
 use mathlib.Core.List.{List, [], _∷_, map}
 use mathlib.Core.Bool.{cond}

@@ -13,7 +13,7 @@ const LOCATIONS: u32 = 2;
 
 const CLOCKS: u8 = 1;
 
-// After label `a`, and until label `b`, every label of `m` comes within `c` ticks.
+// From label `a`, and until the next `b`, that `b` included, labels of `m` come only within `c` ticks of that `a`.
 #[derive(Clone, Copy)]
 pub struct Deadline {
     a: u8,

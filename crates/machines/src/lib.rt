@@ -1,5 +1,4 @@
 // Timed automata behind one interface.
-pub mod borrowed;
 pub mod choice;
 pub mod deadline;
 pub mod machine;

@@ -1,15 +1,23 @@
 // A machine in words.
+use console::sign::sign;
 use machines::machine::Machine;
+use machines::machine::Summary;
 use machines::machine::summarize;
 use std::io;
 
-fn comparison_text(comparison: u8) -> &'static str {
-    match comparison {
-        0 => "<",
-        1 => "<=",
-        2 => ">",
-        _ => ">=",
+// The numbers of a machine as a whole, and of a table its edges, to the end of the line.
+pub fn print_summary(rt: &LibcRuntime, sum: Summary, edges: Option<u32>) -> io::Result<()> {
+    let Summary {
+        locations,
+        clocks,
+        width,
+        labels,
+    } = sum;
+    print!(rt, "{locations} locations, {clocks} clocks, ")?;
+    if let Some(edges) = edges {
+        print!(rt, "{edges} edges, ")?;
     }
+    println!(rt, "width {width}, labels 0x{labels:08x}")
 }
 
 // The atoms of the k-th edge at the location, each after a space.
@@ -25,7 +33,7 @@ fn print_atoms<M: Machine>(
     }
     for i in 0..count {
         if let Some((clock, comparison, constant)) = m.atom(location, k, i) {
-            let is = comparison_text(comparison);
+            let is = sign(comparison);
             print!(rt, " {clock}{is}{constant}")?;
         }
     }
@@ -68,15 +76,9 @@ fn print_location<M: Machine>(
 // The numbers of the machine, and then a line for each edge.
 pub fn describe<M: Machine>(rt: &LibcRuntime, name: &str, m: &M) -> io::Result<()> {
     let sum = summarize(m);
-    let locations = sum.locations;
-    let clocks = sum.clocks;
-    let width = sum.width;
-    let labels = sum.labels;
-    println!(
-        rt,
-        "{name}: {locations} locations, {clocks} clocks, width {width}, labels 0x{labels:08x}"
-    )?;
-    for location in 0..locations {
+    print!(rt, "{name}: ")?;
+    print_summary(rt, sum, None)?;
+    for location in 0..sum.locations {
         print_location(rt, name, m, location)?;
     }
     Ok(())

@@ -1,11 +1,12 @@
 // Bytes written in hexadecimal.
+ghost use mathlib.Core.Logic.{_⊎_};
 ghost use mathlib.Core.Path.{_≡_};
 ghost use Prim.Native.Nat.{_+_, _*_, _<_};
 ghost use Rattle.std.specs.Numbers.{Checked};
 ghost use Rattle.std.specs.Of.Vec.{vec-items};
 ghost use Rattle.std.specs.Results.{Cases};
 ghost use Rattle.std.specs.Text.{digitValue};
-ghost use Rattle.scripts.specs.declared.fault.Fault.the-variants.{Hex};
+ghost use Rattle.scripts.specs.declared.fault.Fault.the-variants.{Hex, Memory};
 ghost use Rattle.scripts.specs.Numbers.{IsHex, unhexed};
 use crate::fault::Fault;
 use crate::fault::FaultFromRefused;
@@ -22,7 +23,7 @@ fn hex_byte(high: u8, low: u8) -> Option<u8>
 
 // The bytes that a text writes, two digits each.
 pub fn bytes(heap: Global, text: &[u8]) -> Result<Vec<u8>, Fault>
-    ensures { λ r. ⌜ Cases r (λ v. IsHex (now (text .entry)) × (vec-items v ≡ unhexed (now (text .entry)))) (λ e. (e ≡ Hex → IsHex (now (text .entry)) → ⊥)) ⌝ }
+    ensures { λ r. ⌜ Cases r (λ v. IsHex (now (text .entry)) × (vec-items v ≡ unhexed (now (text .entry)))) (λ e. (e ≡ Memory) ⊎ ((e ≡ Hex) × (IsHex (now (text .entry)) → ⊥))) ⌝ }
 {
     if text.len() % 2 != 0 {
         return Err(Fault::Hex);

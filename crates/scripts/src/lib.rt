@@ -2,5 +2,6 @@
 pub mod fault;
 pub mod hex;
 pub mod number;
+pub mod source;
 pub mod statement;
 pub mod text;

@@ -1,5 +1,5 @@
-// Numerals and bytes written in digits.
-ghost use Prim.Native.Nat.{_≤_, _<_};
+// Numbers written in digits.
+ghost use Prim.Native.Nat.{_≤_, _<_, min};
 ghost use Rattle.std.specs.Numbers.{Checked};
 ghost use Rattle.std.specs.Reads.{value};
 ghost use mathlib.Core.Bool.{true};
@@ -45,4 +45,11 @@ pub fn number(word: &[u8]) -> Option<u32>
     } else {
         digits(word, 10)
     }
+}
+
+// The label of this number; those above 255, which are outside every set, are 255.
+pub fn label_of(number: u32) -> u8
+    ensures { λ r. ⌜ r ≡ min number 255 ⌝ }
+{
+    number.min(255) as u8
 }

@@ -1,4 +1,5 @@
-use mathlib.Core.Path.{_≡_, sym, ap, ap₂, subst, _∙_}
+use mathlib.Core.Logic.{inl, inr}
+use mathlib.Core.Path.{_≡_, refl, sym, ap, ap₂, subst, _∙_}
 use mathlib.Core.List.{[], _∷_, _++_}
 use Prim.Native.Nat.{ℕ, _+_, _*_, _<_}
 use native.Mathlib.Omega.{arith}
@@ -12,14 +13,17 @@ use Rattle.scripts.proofs.Hexes.{unhexed-more}
 use Rattle.scripts.proofs.Numerals.{digit-at}
 use Rattle.scripts.proofs.hex.bytes.Needs as need
 
+pub returns-then-text-ne0 : need.returns-then-text-ne0
+returns-then-text-ne0 c = inr (refl, λ hex. c .if-text-ne0 .taken (hex .0))
+
 pub returns-in-rest : need.returns-in-rest
 returns-in-rest c =
-    λ _ hex. c .in-rest .ensures tt (digit-at 16 (c .args .text .now) (2 * c .loop-i .i) (hex .1) (omega arith), digit-at 16 (c .args .text .now) (2 * c .loop-i .i + 1) (hex .1) (omega arith))
+    inr (refl, λ hex. c .in-rest .ensures tt (digit-at 16 (c .args .text .now) (2 * c .loop-i .i) (hex .1) (omega arith), digit-at 16 (c .args .text .now) (2 * c .loop-i .i + 1) (hex .1) (omega arith)))
 
 pub returns-in-Break-push : need.returns-in-Break-push
 returns-in-Break-push c =
     let p = err-from-errBy (c .from-residual .result) (c .from-residual .ensures .1) in
-    rw (p .1, p .2) (λ e. absurd (let z : _≡_ {A = ℕ} 0 1 = cc in omega arith))
+    rw (p .1, p .2) (inl refl)
 
 pub loop-i-again : need.loop-i-again
 loop-i-again c =

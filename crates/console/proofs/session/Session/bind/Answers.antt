@@ -11,6 +11,8 @@ returns c =
     let same = c .in-Continue-name .ensures tt .made .0 in
     record {
       parts = refl;
-      bound = ap (latest name) (c .in-Continue-push .ensures tt .items) ∙ latest-here name entries _ same;
-      others = λ other apart. ap (latest other) (c .in-Continue-push .ensures tt .items) ∙ latest-other other entries _ (λ is. apart (sym is ∙ same));
+      names = (
+        ap (latest name) (c .in-Continue-push .ensures tt .items) ∙ latest-here name entries _ same,
+        λ other apart. ap (latest other) (c .in-Continue-push .ensures tt .items) ∙ latest-other other entries _ (λ is. apart (sym is ∙ same)),
+      );
     }
