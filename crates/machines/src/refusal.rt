@@ -2,7 +2,8 @@
 ghost use mathlib.Core.Path.{_≡_};
 ghost use Rattle.machines.specs.Refusals.{number-of, place-of};
 
-// One case for each number. A case that speaks of a record has the place of the record's first byte.
+// One case for each number. A case that speaks of a record has the place of the record's first byte, and one
+// that speaks of a step the step's number.
 #[derive(Clone, Copy, PartialEq, Debug)]
 pub enum Refusal {
     // The file is too long, or a record is cut short.
@@ -21,6 +22,10 @@ pub enum Refusal {
     Pair,
     // The labels or the limit of a deadline do not fit.
     Deadline,
+    // A word's grid, length, delays or labels are outside their ranges.
+    Word,
+    // More than 64 states stand after this step of a word.
+    Crowd(usize),
 }
 
 impl Refusal {
@@ -36,6 +41,8 @@ impl Refusal {
             Refusal::Order(_) => 6,
             Refusal::Pair => 7,
             Refusal::Deadline => 8,
+            Refusal::Word => 13,
+            Refusal::Crowd(_) => 24,
         }
     }
 
@@ -45,7 +52,8 @@ impl Refusal {
         match self {
             Refusal::Frame(at) | Refusal::Kind(at) | Refusal::Shape(at) => at,
             Refusal::Range(at) | Refusal::Missing(at) | Refusal::Order(at) => at,
-            Refusal::Pair | Refusal::Deadline => 0,
+            Refusal::Crowd(step) => step,
+            Refusal::Pair | Refusal::Deadline | Refusal::Word => 0,
         }
     }
 }

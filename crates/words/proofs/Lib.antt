@@ -1,0 +1,9 @@
+pub mod Edges
+pub mod Members
+pub mod Prefixes
+pub mod Ranges
+pub mod Runs
+pub mod Splits
+pub mod Standing
+pub mod Values
+pub mod Wide
