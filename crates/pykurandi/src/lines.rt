@@ -19,15 +19,17 @@ use pairs::pair::Pair;
 use pairs::pair::PairMachine;
 use scripts::fault::Fault;
 use scripts::hex;
+use scripts::letters::letters;
 use scripts::number::label_of;
 use scripts::source::Source;
 use scripts::source::source_of;
 use scripts::statement::Statement;
 use scripts::statement::parse;
-use scripts::text::words;
+use scripts::text;
 use std::fs;
 use std::io;
 use std::str::from_utf8;
+use words::replay::replay;
 
 // The bytes that a table is loaded from.
 fn read_source(rt: &LibcRuntime, word: &[u8]) -> Result<Vec<u8>, Fault> {
@@ -127,32 +129,71 @@ fn part_number(session: &Session, name: &[u8]) -> Result<usize, Fault> {
     }
 }
 
-// Describes the machine with the name.
-fn obey_describe(rt: &LibcRuntime, session: &Session, name: &[u8]) -> Result<(), Trouble> {
-    let text = String::from_utf8_lossy(rt.alloc(), name)?;
-    let parts = match session.find(name) {
+// The table or deadline with the name, or the two parts of the pair with the name.
+fn find_parts<'a>(session: &'a Session, name: &[u8]) -> (Option<&'a Part>, Option<&'a Part>) {
+    match session.find(name) {
         Some(Named::Part(i)) => (session.part(i), None),
         Some(Named::Pair(i, j)) => (session.part(i), session.part(j)),
         None => (None, None),
-    };
-    match parts {
+    }
+}
+
+// Describes the machine with the name.
+fn obey_describe(rt: &LibcRuntime, session: &Session, name: &[u8]) -> Result<(), Trouble> {
+    let text = String::from_utf8_lossy(rt.alloc(), name)?;
+    match find_parts(session, name) {
         (Some(part), None) => describe(rt, text.as_str(), &station(part))?,
         (Some(left), Some(right)) => {
-            describe(rt, text.as_str(), &Pair::new(station(left), station(right)))?
+            describe(
+                rt,
+                text.as_str(),
+                &Pair::new(station(left), station(right)),
+            )?
         }
         (None, _) => return Err(Trouble::Fault(Fault::Missing)),
     }
     Ok(())
 }
 
+// Replays the steps on the machine with the name.
+fn obey_replay(
+    rt: &LibcRuntime,
+    session: &Session,
+    name: &[u8],
+    grid: u32,
+    steps: &[&[u8]],
+) -> Result<(), Trouble> {
+    let heap = rt.alloc();
+    let text = String::from_utf8_lossy(heap, name)?;
+    let word = letters(heap, steps)?;
+    let answer = match find_parts(session, name) {
+        (Some(part), None) => replay(&station(part), grid, word.as_slice()),
+        (Some(left), Some(right)) => {
+            let pair = Pair::new(station(left), station(right));
+            replay(&pair, grid, word.as_slice())
+        }
+        (None, _) => return Err(Trouble::Fault(Fault::Missing)),
+    };
+    match answer {
+        Ok(true) => println!(rt, "replay {text}: word")?,
+        Ok(false) => println!(rt, "replay {text}: not a word")?,
+        Err(why) => print_refusal(rt, "replay", text.as_str(), why)?,
+    }
+    Ok(())
+}
+
 // Does what the line says.
 pub fn obey(rt: &LibcRuntime, session: &mut Session, line: &[u8]) -> Result<(), Trouble> {
-    let words = words(rt.alloc(), line)?;
+    let words = text::words(rt.alloc(), line)?;
     match parse(words.as_slice())? {
         Statement::Blank => Ok(()),
         Statement::Table { name, source } => obey_table(rt, session, name, source),
         Statement::Deadline { name, a, b, m, c } => obey_deadline(rt, session, name, (a, b, m, c)),
         Statement::Pair { name, left, right } => obey_pair(rt, session, name, left, right),
         Statement::Describe { name } => obey_describe(rt, session, name),
+        Statement::Replay { name, grid } => {
+            let steps = words.as_slice().get(3..).unwrap_or(&[]);
+            obey_replay(rt, session, name, grid, steps)
+        }
     }
 }

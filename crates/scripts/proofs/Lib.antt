@@ -1,4 +1,5 @@
 mod Hexes
 mod Numerals
 mod Spellings
+mod Steps
 mod Words

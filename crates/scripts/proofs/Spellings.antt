@@ -1,12 +1,12 @@
 -- Statements and the words that spell them.
 use mathlib.Core.Path.{_≡_, refl, sym, ap, subst, _∙_}
 use mathlib.Core.List.{List, [], _∷_, map}
+use mathlib.Core.Logic.{inl, inr}
 use Prim.Native.Nat.{ℕ, zero, suc, _≤_, _<_}
 use native.Mathlib.Omega.{arith}
 use lib.Chars.{codes}
 use lib.ListN.{length, getD}
 use denote.Ref.{RefT, now}
-use Rattle.std.proofs.shelf.Lists.{length-map}
 use Rattle.std.specs.declared.result.Result.{Result}
 use Rattle.std.specs.declared.result.Result.the-variants.{Err}
 use Rattle.scripts.specs.declared.fault.Fault.{Fault}
@@ -16,7 +16,7 @@ use Rattle.scripts.specs.Numbers.{Writes, Written}
 use Rattle.scripts.specs.Spelling.{word-at, Read, Faulty}
 
 -- what stands past the last word
-abbrev none : RefT (List ℕ)
+abbrev pub none : RefT (List ℕ)
 none = record { ptr = (0, 0); name = 0; now = [] }
 
 -- the text of word i
@@ -47,10 +47,16 @@ as-four [] e = absurd (omega arith)
 as-four (a ∷ ws) e = ap (λ t. now a ∷ t) (as-three ws (omega arith))
 
 -- a word of a deadline that is no number
-pub no-number : (ws : List (RefT (List ℕ))) (i : ℕ) (r : Result Statement Fault) (y e : Fault) → length ws ≡ 6 → word-at (map now ws) 0 ≡ codes "deadline" → 2 ≤ i → i < 6
+pub no-number : (ws : List (RefT (List ℕ))) (i : ℕ) (r : Result Statement Fault) (y e : Fault) → word-at (map now ws) 0 ≡ codes "deadline" → 2 ≤ i → i < 6
     → r ≡ Err y → y ≡ e → (e ≡ Number) × (Written (text ws i) → ⊥) → Read (map now ws) r
-no-number ws i r y e six first low high is same told =
-    let why : Faulty Number (map now ws) = (length-map ws now ∙ six, first, i, low, high, λ h. told .1 (subst Written (word-is ws i) h)) in
+no-number ws i r y e first low high is same told =
+    let why : Faulty Number (map now ws) = inl (first, i, low, high, λ h. told .1 (subst Written (word-is ws i) h)) in
+    subst (Read (map now ws)) (sym (is ∙ ap Err (same ∙ told .0))) why
+
+-- a grid that is no number
+pub no-grid : (ws : List (RefT (List ℕ))) (r : Result Statement Fault) (y e : Fault) → word-at (map now ws) 0 ≡ codes "replay" → r ≡ Err y → y ≡ e → (e ≡ Number) × (Written (text ws 2) → ⊥) → Read (map now ws) r
+no-grid ws r y e first is same told =
+    let why : Faulty Number (map now ws) = inr (first, λ h. told .1 (subst Written (word-is ws 2) h)) in
     subst (Read (map now ws)) (sym (is ∙ ap Err (same ∙ told .0))) why
 
 pub writes : (ws : List (RefT (List ℕ))) (i n : ℕ) → Writes (text ws i) n → Writes (word-at (map now ws) i) n

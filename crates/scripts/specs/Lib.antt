@@ -1,3 +1,4 @@
+pub mod Letters
 pub mod Lines
 pub mod Numbers
 pub mod Sources

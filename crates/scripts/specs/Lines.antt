@@ -10,18 +10,19 @@ use Rattle.std.specs.shelf.Lists.{leading}
 use Rattle.std.specs.declared.option.Option.{Option}
 use Rattle.std.specs.declared.option.Option.the-variants.{Some, None}
 use Rattle.scripts.specs.declared.text.Run.{Run}
-use Rattle.scripts.specs.declared.text.Run.the-variants.{Blanks, Word, Code, Line}
+use Rattle.scripts.specs.declared.text.Run.the-variants.{Blanks, Word, Code, Line, Delay}
 
 -- a space, a tab or a carriage return
 abbrev pub blank : ℕ → Bool
 blank b = eqb b 32 || (eqb b 9 || eqb b 13)
 
--- whether a run goes on with a byte; 35 is '#', and 10 a line feed
+-- whether a run goes on with a byte; 35 is '#', 10 a line feed and 58 a colon
 abbrev pub goes-on : Run → ℕ → Bool
 goes-on Blanks b = blank b
 goes-on Word b = not (blank b)
 goes-on Code b = not (eqb b 35)
 goes-on Line b = not (eqb b 10)
+goes-on Delay b = not (eqb b 58)
 
 -- the run that a text begins with, and what follows it
 abbrev pub front : Run → List ℕ → List ℕ

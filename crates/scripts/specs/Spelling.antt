@@ -1,6 +1,9 @@
 -- How each statement is spelled, as a list of words.
 use mathlib.Core.Path.{_≡_}
+use mathlib.Core.Bool.{Bool, false}
 use mathlib.Core.List.{List, [], _∷_}
+use mathlib.Core.Logic.{_⊎_}
+use lib.Dec.{eqb, leb}
 use Prim.Native.Nat.{ℕ, _≤_, _<_}
 use lib.Chars.{codes}
 use lib.ListN.{length, getD}
@@ -14,7 +17,7 @@ use Rattle.scripts.specs.declared.fault.Fault.the-variants.{Memory, Unknown, W
 use Rattle.scripts.specs.declared.statement.Keyword.{Keyword}
 use Rattle.scripts.specs.declared.statement.Keyword.the-variants as keyword
 use Rattle.scripts.specs.declared.statement.Statement.{Statement}
-use Rattle.scripts.specs.declared.statement.Statement.the-variants.{Blank, Table, Deadline, Pair, Describe}
+use Rattle.scripts.specs.declared.statement.Statement.the-variants.{Blank, Table, Deadline, Pair, Describe, Replay}
 use Rattle.scripts.specs.Numbers.{Writes, Written}
 
 -- how a keyword is spelled
@@ -23,13 +26,15 @@ spelling keyword.Table = codes "table"
 spelling keyword.Deadline = codes "deadline"
 spelling keyword.Pair = codes "pair"
 spelling keyword.Describe = codes "describe"
+spelling keyword.Replay = codes "replay"
 
--- how many words a statement has, its keyword included
-abbrev pub arity-of : Keyword → ℕ
-arity-of keyword.Table = 3
-arity-of keyword.Deadline = 6
-arity-of keyword.Pair = 4
-arity-of keyword.Describe = 2
+-- whether a statement may have so many words, its keyword included
+abbrev pub fitting : Keyword → ℕ → Bool
+fitting keyword.Table n = eqb n 3
+fitting keyword.Deadline n = eqb n 6
+fitting keyword.Pair n = eqb n 4
+fitting keyword.Describe n = eqb n 2
+fitting keyword.Replay n = leb 3 n
 
 -- the keyword that a word is, or none where it is none
 abbrev pub Recognized : List ℕ → Option Keyword → Type 0
@@ -54,13 +59,14 @@ Spelled (Table name source) ws = ws ≡ codes "table" ∷ now name ∷ now sourc
 Spelled (Deadline name a b m c) ws = (length ws ≡ 6) × (word-at ws 0 ≡ codes "deadline") × (word-at ws 1 ≡ now name) × Numbers ws a b m c
 Spelled (Pair name left right) ws = ws ≡ codes "pair" ∷ now name ∷ now left ∷ now right ∷ []
 Spelled (Describe name) ws = ws ≡ codes "describe" ∷ now name ∷ []
+Spelled (Replay name grid) ws = (3 ≤ length ws) × (word-at ws 0 ≡ codes "replay") × (word-at ws 1 ≡ now name) × Writes (word-at ws 2) grid
 
 -- why the words spell none; other faults come later
 abbrev pub Faulty : Fault → List (List ℕ) → Type 0
 Faulty Memory ws = ⊥
 Faulty Unknown ws = (0 < length ws) × ((k : Keyword) → word-at ws 0 ≡ spelling k → ⊥)
-Faulty Words ws = (k : Keyword) × (word-at ws 0 ≡ spelling k) × (length ws ≡ arity-of k → ⊥)
-Faulty Number ws = (length ws ≡ 6) × (word-at ws 0 ≡ codes "deadline") × (i : ℕ) × (2 ≤ i) × (i < 6) × (Written (word-at ws i) → ⊥)
+Faulty Words ws = (k : Keyword) × (word-at ws 0 ≡ spelling k) × (fitting k (length ws) ≡ false)
+Faulty Number ws = ((word-at ws 0 ≡ codes "deadline") × (i : ℕ) × (2 ≤ i) × (i < 6) × (Written (word-at ws i) → ⊥)) ⊎ ((word-at ws 0 ≡ codes "replay") × (Written (word-at ws 2) → ⊥))
 Faulty Hex ws = ⊥
 Faulty Missing ws = ⊥
 Faulty Paired ws = ⊥

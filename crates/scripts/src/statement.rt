@@ -1,11 +1,12 @@
 // What a line of a script says.
 ghost use mathlib.Core.List.{map};
 ghost use mathlib.Core.Path.{_≡_};
+ghost use Prim.Native.Nat.{_≤_};
 ghost use lib.Chars.{codes};
 ghost use lib.ListN.{length};
 ghost use Rattle.std.specs.Results.{Cases};
 ghost use Rattle.scripts.specs.declared.fault.Fault.the-variants.{Number};
-ghost use Rattle.scripts.specs.Spelling.{Recognized, Read, arity-of, word-at};
+ghost use Rattle.scripts.specs.Spelling.{Recognized, Read, fitting, word-at};
 ghost use Rattle.scripts.specs.Numbers.{Writes, Written};
 use crate::fault::Fault;
 use crate::number::number;
@@ -17,6 +18,7 @@ pub enum Keyword {
     Deadline,
     Pair,
     Describe,
+    Replay,
 }
 
 // A statement; names and sources are parts of the line.
@@ -42,6 +44,11 @@ pub enum Statement<'a> {
     Describe {
         name: &'a [u8],
     },
+    // The words from the fourth on are the steps.
+    Replay {
+        name: &'a [u8],
+        grid: u32,
+    },
 }
 
 // The keyword that the word is.
@@ -60,18 +67,22 @@ fn recognize(word: &[u8]) -> Option<Keyword>
     if word == b"describe" {
         return Some(Keyword::Describe);
     }
+    if word == b"replay" {
+        return Some(Keyword::Replay);
+    }
     None
 }
 
-// How many words a statement has.
-fn arity(keyword: Keyword) -> usize
-    ensures { λ r. ⌜ r ≡ arity-of keyword ⌝ }
+// Whether a statement with the keyword may have so many words.
+fn fits(keyword: Keyword, count: usize) -> bool
+    ensures { λ r. ⌜ r ≡ fitting keyword count ⌝ }
 {
     match keyword {
-        Keyword::Table => 3,
-        Keyword::Deadline => 6,
-        Keyword::Pair => 4,
-        Keyword::Describe => 2,
+        Keyword::Table => count == 3,
+        Keyword::Deadline => count == 6,
+        Keyword::Pair => count == 4,
+        Keyword::Describe => count == 2,
+        Keyword::Replay => count >= 3,
     }
 }
 
@@ -98,6 +109,16 @@ fn deadline<'a>(words: &[&'a [u8]]) -> Result<Statement<'a>, Fault>
     Ok(Statement::Deadline { name, a, b, m, c })
 }
 
+// The replay that three or more words spell.
+fn replay<'a>(words: &[&'a [u8]]) -> Result<Statement<'a>, Fault>
+    requires { ⌜ 3 ≤ length (now words) ⌝ ∗ ⌜ word-at (map now (now words)) 0 ≡ codes "replay" ⌝ }
+    ensures { λ r. ⌜ Read (map now (now (words .entry))) r ⌝ }
+{
+    let grid = number_of(words[2])?;
+    let name = words[1];
+    Ok(Statement::Replay { name, grid })
+}
+
 // The statement that the words spell.
 pub fn parse<'a>(words: &[&'a [u8]]) -> Result<Statement<'a>, Fault>
     ensures { λ r. ⌜ Read (map now (now (words .entry))) r ⌝ }
@@ -109,7 +130,7 @@ pub fn parse<'a>(words: &[&'a [u8]]) -> Result<Statement<'a>, Fault>
     let Some(keyword) = recognize(words[0]) else {
         return Err(Fault::Unknown);
     };
-    if count != arity(keyword) {
+    if !fits(keyword, count) {
         return Err(Fault::Words);
     }
     match keyword {
@@ -124,5 +145,6 @@ pub fn parse<'a>(words: &[&'a [u8]]) -> Result<Statement<'a>, Fault>
             right: words[3],
         }),
         Keyword::Describe => Ok(Statement::Describe { name: words[1] }),
+        Keyword::Replay => replay(words),
     }
 }

@@ -22,6 +22,8 @@ pub enum Run {
     Code,
     // anything but a line feed
     Line,
+    // anything but a colon
+    Delay,
 }
 
 // Whether a run of this kind goes on with the byte.
@@ -34,11 +36,12 @@ fn goes_on(run: Run, b: u8) -> bool
         Run::Word => !blank,
         Run::Code => b != b'#',
         Run::Line => b != b'\n',
+        Run::Delay => b != b':',
     }
 }
 
 // The length of the run that the text begins with.
-fn run_length(text: &[u8], run: Run) -> usize
+pub(crate) fn run_length(text: &[u8], run: Run) -> usize
     ensures value { λ r. ⌜ r ≡ leading (goes-on run) (now (text .entry)) ⌝ }
     ensures bound { λ r. ⌜ r ≤ length (now (text .entry)) ⌝ }
 {

@@ -3,7 +3,7 @@ use mathlib.Core.Bool.{Bool, true, false}
 use Prim.Native.Nat.{ℕ}
 use native.Mathlib.Omega.{arith}
 use Rattle.std.proofs.shelf.Equals.{matches-decides}
-use Rattle.scripts.specs.declared.statement.Keyword.the-variants.{Table, Deadline, Pair, Describe}
+use Rattle.scripts.specs.declared.statement.Keyword.the-variants.{Table, Deadline, Pair, Describe, Replay}
 use Rattle.scripts.specs.Spelling.{spelling}
 use Rattle.scripts.proofs.statement.recognize.Needs as need
 
@@ -19,6 +19,9 @@ returns-then-eq-3 c = matches-decides _ _ _ (c .eq-3 .ensures) .0 (c .if-eq-3 .t
 pub returns-then-eq-4 : need.returns-then-eq-4
 returns-then-eq-4 c = matches-decides _ _ _ (c .eq-4 .ensures) .0 (c .if-eq-4 .taken)
 
+pub returns-then-eq-5 : need.returns-then-eq-5
+returns-then-eq-5 c = matches-decides _ _ _ (c .eq-5 .ensures) .0 (c .if-eq-5 .taken)
+
 no : (r : Bool) → r ≡ false → r ≡ true → ⊥
 no r off on = let z : _≡_ {A = ℕ} 0 1 = cc in omega arith
 
@@ -28,4 +31,5 @@ returns c = λ k is. elim k as (λ k. c .args .word .now ≡ spelling k → ⊥)
   | Deadline ↦ λ is. no _ (c .if-eq-2 .left) (matches-decides _ _ _ (c .eq-2 .ensures) .1 is)
   | Pair ↦ λ is. no _ (c .if-eq-3 .left) (matches-decides _ _ _ (c .eq-3 .ensures) .1 is)
   | Describe ↦ λ is. no _ (c .if-eq-4 .left) (matches-decides _ _ _ (c .eq-4 .ensures) .1 is)
+  | Replay ↦ λ is. no _ (c .if-eq-5 .left) (matches-decides _ _ _ (c .eq-5 .ensures) .1 is)
 ] is
