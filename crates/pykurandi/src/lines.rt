@@ -144,11 +144,7 @@ fn obey_describe(rt: &LibcRuntime, session: &Session, name: &[u8]) -> Result<(),
     match find_parts(session, name) {
         (Some(part), None) => describe(rt, text.as_str(), &station(part))?,
         (Some(left), Some(right)) => {
-            describe(
-                rt,
-                text.as_str(),
-                &Pair::new(station(left), station(right)),
-            )?
+            describe(rt, text.as_str(), &Pair::new(station(left), station(right)))?
         }
         (None, _) => return Err(Trouble::Fault(Fault::Missing)),
     }
