@@ -1,0 +1,5 @@
+pub mod Dense
+pub mod Facts
+pub mod Keeps
+pub mod Laws
+pub mod Tick

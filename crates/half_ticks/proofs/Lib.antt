@@ -1,0 +1,2 @@
+pub mod HalfKeeps
+pub mod HalfLaws
