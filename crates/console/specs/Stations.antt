@@ -1,6 +1,6 @@
 -- The machine that a part of a script makes.
 use mathlib.Core.Path.{_≡_}
-use mathlib.Core.Bool.{true, false, cond}
+use mathlib.Core.Bool.{Bool, true, false, cond}
 use mathlib.Core.List.{List}
 use Prim.Native.Nat.{ℕ}
 use Rattle.std.specs.Of.Vec.{vec-items}
@@ -12,7 +12,9 @@ use Rattle.models.specs.Model.{model, places-of}
 use Rattle.machines.specs.declared.machine.Summary.{Summary}
 use Rattle.machines.specs.declared.refusal.Refusal.{Refusal}
 use Rattle.machines.specs.Refusals.{Refused}
-use Rattle.pairs.specs.Product.{within-limits, product}
+use Rattle.pairs.specs.Product.{within-limits, pair-of, product}
+use Rattle.words.specs.Replays.{Replayed}
+use Rattle.words.specs.Words.{Letter}
 use Rattle.std.specs.Results.{Cases}
 use Rattle.std.specs.declared.result.Result.{Result}
 use Rattle.std.specs.declared.result.Result.the-variants.{Ok, Err}
@@ -40,3 +42,16 @@ pub record Paired (left right : Part) (r : Result Summary Refusal) : Type 0 wher
   pub left-is : IsPart left A
   pub right-is : IsPart right B
   pub answer : Cases r (λ s. (within-limits A B ≡ true) × Sums s (product A B)) (λ e. (within-limits A B ≡ false) × Refused e 7 0)
+
+-- what a word is answered on the automaton of a part, and on that of the pair of two
+pub record PartReplayed (part : Part) (N : ℕ) (w : List Letter) (r : Result Bool Refusal) : Type 0 where
+  pub A : Automaton
+  pub part-is : IsPart part A
+  pub answer : Replayed A N w r
+
+pub record PairReplayed (left right : Part) (N : ℕ) (w : List Letter) (r : Result Bool Refusal) : Type 0 where
+  pub A : Automaton
+  pub B : Automaton
+  pub left-is : IsPart left A
+  pub right-is : IsPart right B
+  pub answer : Replayed (pair-of A B) N w r

@@ -1,5 +1,6 @@
 // What a machine that a script makes is answered.
-ghost use Rattle.console.specs.Stations.{ModelRead, Paired};
+ghost use Rattle.console.specs.Stations.{ModelRead, Paired, PairReplayed, PartReplayed};
+ghost use Rattle.words.specs.Replays.{word-of};
 use crate::part::Part;
 use crate::part::station;
 use machines::choice::ChoiceMachine;
@@ -11,6 +12,8 @@ use models::table::Table;
 use models::table::TableMachine;
 use pairs::pair::Pair;
 use pairs::pair::PairMachine;
+use words::replay::replay;
+use words::word::Letter;
 
 // The numbers of the model file's machine and how many edges it has, or why it is refused.
 pub fn read_model(file: &[u8]) -> Result<(Summary, u32), Refusal>
@@ -29,4 +32,18 @@ pub fn read_pair(left: &Part, right: &Part) -> Result<Summary, Refusal>
     let right = station(right);
     Pair::check(&left, &right)?;
     Ok(summarize(&Pair::new(left, right)))
+}
+
+// What the word is answered on the part's machine.
+pub fn replay_part(part: &Part, grid: u32, word: &[Letter]) -> Result<bool, Refusal>
+    ensures { λ r. ⌜ PartReplayed (now (part .entry)) grid (word-of (now (word .entry))) r ⌝ }
+{
+    replay(&station(part), grid, word)
+}
+
+// What the word is answered on the pair of the two parts.
+pub fn replay_pair(left: &Part, right: &Part, grid: u32, word: &[Letter]) -> Result<bool, Refusal>
+    ensures { λ r. ⌜ PairReplayed (now (left .entry)) (now (right .entry)) grid (word-of (now (word .entry))) r ⌝ }
+{
+    replay(&Pair::new(station(left), station(right)), grid, word)
 }

@@ -6,6 +6,8 @@ use crate::trouble::TroubleFromAlloc;
 use crate::trouble::TroubleFromFault;
 use crate::trouble::TroubleFromOutput;
 use console::answer::read_pair;
+use console::answer::replay_pair;
+use console::answer::replay_part;
 use console::part::Part;
 use console::part::station;
 use console::session::Named;
@@ -19,7 +21,7 @@ use pairs::pair::Pair;
 use pairs::pair::PairMachine;
 use scripts::fault::Fault;
 use scripts::hex;
-use scripts::letters::letters;
+use scripts::letters::steps;
 use scripts::number::label_of;
 use scripts::source::Source;
 use scripts::source::source_of;
@@ -29,7 +31,6 @@ use scripts::text;
 use std::fs;
 use std::io;
 use std::str::from_utf8;
-use words::replay::replay;
 
 // The bytes that a table is loaded from.
 fn read_source(rt: &LibcRuntime, word: &[u8]) -> Result<Vec<u8>, Fault> {
@@ -157,17 +158,14 @@ fn obey_replay(
     session: &Session,
     name: &[u8],
     grid: u32,
-    steps: &[&[u8]],
+    words: &[&[u8]],
 ) -> Result<(), Trouble> {
     let heap = rt.alloc();
     let text = String::from_utf8_lossy(heap, name)?;
-    let word = letters(heap, steps)?;
+    let word = steps(heap, words)?;
     let answer = match find_parts(session, name) {
-        (Some(part), None) => replay(&station(part), grid, word.as_slice()),
-        (Some(left), Some(right)) => {
-            let pair = Pair::new(station(left), station(right));
-            replay(&pair, grid, word.as_slice())
-        }
+        (Some(part), None) => replay_part(part, grid, word.as_slice()),
+        (Some(left), Some(right)) => replay_pair(left, right, grid, word.as_slice()),
         (None, _) => return Err(Trouble::Fault(Fault::Missing)),
     };
     match answer {
@@ -188,8 +186,7 @@ pub fn obey(rt: &LibcRuntime, session: &mut Session, line: &[u8]) -> Result<(), 
         Statement::Pair { name, left, right } => obey_pair(rt, session, name, left, right),
         Statement::Describe { name } => obey_describe(rt, session, name),
         Statement::Replay { name, grid } => {
-            let steps = words.as_slice().get(3..).unwrap_or(&[]);
-            obey_replay(rt, session, name, grid, steps)
+            obey_replay(rt, session, name, grid, words.as_slice())
         }
     }
 }

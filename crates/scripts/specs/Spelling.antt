@@ -13,7 +13,7 @@ use Rattle.std.specs.declared.option.Option.the-variants.{Some, None}
 use Rattle.std.specs.declared.result.Result.{Result}
 use Rattle.std.specs.declared.result.Result.the-variants.{Ok, Err}
 use Rattle.scripts.specs.declared.fault.Fault.{Fault}
-use Rattle.scripts.specs.declared.fault.Fault.the-variants.{Memory, Unknown, Words, Number, Hex, Missing, Paired, File}
+use Rattle.scripts.specs.declared.fault.Fault.the-variants.{Memory, Unknown, Words, Number, Hex, Step, Missing, Paired, File}
 use Rattle.scripts.specs.declared.statement.Keyword.{Keyword}
 use Rattle.scripts.specs.declared.statement.Keyword.the-variants as keyword
 use Rattle.scripts.specs.declared.statement.Statement.{Statement}
@@ -68,6 +68,7 @@ Faulty Unknown ws = (0 < length ws) × ((k : Keyword) → word-at ws 0 ≡ spell
 Faulty Words ws = (k : Keyword) × (word-at ws 0 ≡ spelling k) × (fitting k (length ws) ≡ false)
 Faulty Number ws = ((word-at ws 0 ≡ codes "deadline") × (i : ℕ) × (2 ≤ i) × (i < 6) × (Written (word-at ws i) → ⊥)) ⊎ ((word-at ws 0 ≡ codes "replay") × (Written (word-at ws 2) → ⊥))
 Faulty Hex ws = ⊥
+Faulty Step ws = ⊥
 Faulty Missing ws = ⊥
 Faulty Paired ws = ⊥
 Faulty File ws = ⊥

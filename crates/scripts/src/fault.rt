@@ -17,6 +17,8 @@ pub enum Fault {
     Number,
     // A word is not made of pairs of hexadecimal digits.
     Hex,
+    // A word is no delay, colon and label.
+    Step,
     // No machine has the name.
     Missing,
     // The name stands for a pair, where a table or a deadline is wanted.
@@ -33,6 +35,7 @@ pub impl fmt::Display for Fault as FaultDisplay {
             Fault::Words => "wrong number of words",
             Fault::Number => "not a number of 32 bits",
             Fault::Hex => "not pairs of hexadecimal digits",
+            Fault::Step => "not a delay, a colon and a label",
             Fault::Missing => "no machine has this name",
             Fault::Paired => "a pair is no part of a pair",
             Fault::File => "the file cannot be read",

@@ -1,4 +1,5 @@
 // What replaying a word answers.
+use crate::files::add_edge;
 use crate::files::add_guarded;
 use crate::files::fan;
 use crate::files::head;
@@ -50,6 +51,39 @@ fn crowds(rt: LibcRuntime) -> Result<(), Fail> {
     check_crowd(later.as_slice(), &[LEAD, STEP, LOST], (24, 1))?;
     check_crowd(later.as_slice(), &[LEAD], (0, 1))?;
     check_crowd(later.as_slice(), &[], (0, 1))
+}
+
+// Many edges to one state make no crowd.
+#[test]
+fn one_state(rt: LibcRuntime) -> Result<(), Fail> {
+    let mut file = head(rt.alloc(), 1, 0).ok_or("memory")?;
+    for _ in 0..200 {
+        add_edge(&mut file, 0, 0, 0, 0).ok_or("memory")?;
+    }
+    check_crowd(file.as_slice(), &[STEP, STEP], (0, 1))
+}
+
+// The longest word and delay, and one more.
+#[test]
+fn ranges(rt: LibcRuntime) -> Result<(), Fail> {
+    let mut file = head(rt.alloc(), 1, 1).ok_or("memory")?;
+    add_edge(&mut file, 0, 0, 31, 0).ok_or("memory")?;
+    let longest = Letter {
+        delay: 1_000_000_000,
+        label: 31,
+    };
+    check_crowd(file.as_slice(), &[longest; 256], (0, 1))?;
+    check_crowd(file.as_slice(), &[longest; 257], (13, 0))?;
+    let later = Letter {
+        delay: 1_000_000_001,
+        label: 31,
+    };
+    check_crowd(file.as_slice(), &[longest, later], (13, 0))?;
+    let higher = Letter {
+        delay: 0,
+        label: 32,
+    };
+    check_crowd(file.as_slice(), &[higher], (13, 0))
 }
 
 // A step of label 0 is one at the delay exactly where the comparison holds.
