@@ -1,4 +1,5 @@
 // The machines that a script has named.
+#![tactic(auto)]
 pub mod answer;
 pub mod part;
 pub mod session;

@@ -1,4 +1,6 @@
 // Timed automata behind one interface.
+#![tactic(auto)]
+
 pub mod choice;
 pub mod deadline;
 pub mod machine;

@@ -47,11 +47,11 @@ pub struct Summary {
 
 // The numbers of the machine, whose meaning is lawful whatever its kind.
 pub fn summarize<M: Machine>(m: &M) -> Summary
-    ensures locations { result.locations ≡ (meaning m.now).locations }
-    ensures clocks { result.clocks ≡ (meaning m.now).clocks }
-    ensures width { result.width ≡ (meaning m.now).width }
-    ensures labels { result.labels ≡ (meaning m.now).labels }
-    ensures lawful { Lawful (meaning m.now) }
+    ensures locations { result.locations ≡ (M.meaning m.now).locations }
+    ensures clocks { result.clocks ≡ (M.meaning m.now).clocks }
+    ensures width { result.width ≡ (M.meaning m.now).width }
+    ensures labels { result.labels ≡ (M.meaning m.now).labels }
+    ensures lawful { Lawful (M.meaning m.now) }
 {
     Summary {
         locations: m.locations(),

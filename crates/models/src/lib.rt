@@ -1,4 +1,5 @@
 // Model files: a timed automaton as records of bytes.
+#![tactic(auto)]
 mod check;
 mod index;
 mod layout;

@@ -1,4 +1,5 @@
 // The product of two machines.
+#![tactic(auto)]
 mod edges;
 pub mod pair;
 mod part;

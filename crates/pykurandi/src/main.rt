@@ -1,4 +1,5 @@
 // Reads a script of machines and prints a line for each statement.
+#![tactic(auto)]
 
 mod describe;
 mod lines;

@@ -1,4 +1,5 @@
 // The statements of a script.
+#![tactic(auto)]
 pub mod fault;
 pub mod hex;
 pub mod letters;

@@ -1,4 +1,5 @@
 // Tests of the replay of timed words.
+#![tactic(auto)]
 #[cfg(test)]
 mod files;
 #[cfg(test)]

@@ -9,9 +9,9 @@ use machines::machine::Machine;
 
 // The empty word is every machine's, a prefix of a word is a word, and runs are cut and joined.
 pub fn run_laws<M: Machine>(m: &M)
-    ensures empty { EmptyIsWord (meaning m.now) }
-    ensures prefix { PrefixIsWord (meaning m.now) }
-    ensures join { RunsJoin (meaning m.now) }
+    ensures empty { EmptyIsWord (M.meaning m.now) }
+    ensures prefix { PrefixIsWord (M.meaning m.now) }
+    ensures join { RunsJoin (M.meaning m.now) }
 {}
 
 // The words of a pair are what its parts allow.

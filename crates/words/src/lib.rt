@@ -1,4 +1,5 @@
 // Timed words of machines.
+#![tactic(auto)]
 mod follow;
 pub mod laws;
 pub mod replay;

@@ -1,12 +1,12 @@
 -- What the deadline automaton answers, and that it is lawful.
-use Rattle.std.specs.Prelude.{◌≡◌, ℕ, zero, suc, ◌+◌, ◌^◌, ◌<◌, ◌≤◌, Bool, true, false, cond, List, [], ◌∷◌, map, length, Some, None, Option, ◌==◌, ◌≢◌, count_ones, refl}
+use Rattle.std.specs.Prelude.{◌≡◌, ℕ, zero, suc, ◌^◌, ◌<◌, ◌≤◌, Bool, true, false, cond, [], ◌∷◌, length, Some, None, Option, ◌==◌, ◌≢◌, count_ones, refl}
 use Rattle.std.proofs.Common.{sym, ap, subst, ◌∙◌, arith}
 use Rattle.std.proofs.lemmas.Nat.{ones-le}
 use Rattle.std.proofs.lemmas.List.{length-map}
 use Rattle.std.proofs.lemmas.Option.{slice_get-get_or}
 use Rattle.std.specs.List.{slice_get}
 use Rattle.std.specs.Option.{option_map}
-use Rattle.machines.specs.Automaton.{Atom, Edge, Automaton, edge_at, on_clock, LawfulAtom, LawfulEdge, Lawful, Carried, leaving, edge_count, head_at, atom_of, atom_at}
+use Rattle.machines.specs.Automaton.{Atom, Edge, edge_at, LawfulAtom, LawfulEdge, Lawful, Carried, leaving, edge_count, head_at, atom_of, atom_at}
 use Rattle.machines.specs.Deadline.{labels_in, IsLabel, DeadlineArguments, deadline, idle_edge, armed_edge, within}
 use Rattle.machines.specs.Laws.Lists.{nth_map, from_map, nth_inside}
 use Rattle.machines.specs.Laws.Masks.{length-labels, label_is_set, set_is_label, bit_below}

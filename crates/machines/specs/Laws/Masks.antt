@@ -1,13 +1,13 @@
 -- The set bits of a mask as a list, lowest first.
-use Rattle.std.specs.Prelude.{◌≡◌, ℕ, zero, suc, ◌+◌, ◌-◌, ◌*◌, ◌/◌, ◌%◌, ◌^◌, ◌<◌, ◌≤◌, min, cond, ◌⊎◌, List, [], ◌∷◌, length, drop, Some, None, filter, ◌==◌, bit_and, refl}
-use Rattle.std.proofs.Common.{sym, ap, ap₂, subst, ◌∙◌, inl, inr, pow-suc, add-zero, zero-add, add-suc, suc-add, mod-lt, add-one, arith, pow_mono, length-drop, drop-drop}
+use Rattle.std.specs.Prelude.{◌≡◌, ℕ, zero, suc, ◌+◌, ◌-◌, ◌*◌, ◌/◌, ◌%◌, ◌^◌, ◌<◌, ◌≤◌, cond, ◌⊎◌, List, [], ◌∷◌, length, drop, Some, filter, ◌==◌, bit_and, refl}
+use Rattle.std.proofs.Common.{sym, ap, ap₂, subst, ◌∙◌, inl, inr, pow-suc, add-zero, zero-add, add-one, arith, pow_mono, length-drop, drop-drop}
 use Rattle.std.proofs.Math.Nat.{div-eq_of_lt}
 use Rattle.std.proofs.Math.Arith.{lt-one}
 use Rattle.std.specs.Int.Bits.{and_step, and_self}
 use Rattle.std.specs.Int.Count.{ones, count_trailing_zeros, ones_step}
 use Rattle.std.proofs.lemmas.Nat.{shr-shr, and_le_l}
 use Rattle.std.specs.List.{slice_get, range_with_len}
-use Rattle.std.proofs.str.Laws.{order}
+use Rattle.std.proofs.lemmas.Bool.{cases_lt}
 use Rattle.machines.specs.Automaton.{bit, has}
 use Rattle.machines.specs.Deadline.{labels_in, IsLabel}
 
@@ -40,7 +40,7 @@ labels_set_bits m = let whole : m / 2 ^ 0 ≡ m = omega arith in kept_set_bits 3
 
 -- a mask of n bits has no bit from n on
 pub bit_below : (n m b : ℕ) → m < 2 ^ n → bit m b ≡ 1 → b < n
-bit_below n m b small on = go (order b n)
+bit_below n m b small on = go (cases_lt b n)
   where
     go : (b < n) ⊎ (n ≤ b) → b < n
     go (inl lt) = lt

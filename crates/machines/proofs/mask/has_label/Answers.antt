@@ -1,4 +1,4 @@
-use Rattle.std.proofs.Common.{◌≡◌, ℕ, ◌/◌, ◌^◌, false, eqb, sym, ap, arith, ne_eqb}
+use Rattle.std.proofs.Common.{◌/◌, ◌^◌, eqb, sym, ap, arith, ne_eqb}
 use lib.Bits.{and_mask}
 use Rattle.machines.specs.Automaton.{bit}
 use Rattle.machines.specs.Laws.Masks.{bit_below}

@@ -11,8 +11,8 @@ returns-then-k-count c = sym (slice_get_past (labels_in c.args.mask) c.args.k (o
 pub loop-init : goal.loop-init
 loop-init c = record { below = c.ranges.mask.fits; left = refl }
 
-pub overflow-sub-rest : goal.overflow-sub-rest
-overflow-sub-rest c = some_left c.ranges.mask.fits (omega arith) c.loop.invariant
+pub overflow_sub-rest : goal.overflow_sub-rest
+overflow_sub-rest c = some_left c.ranges.mask.fits (omega arith) c.loop.invariant
 
 pub loop-preserved : goal.loop-preserved
 loop-preserved c = one_cleared c.ranges.mask.fits (omega arith) c.loop.invariant

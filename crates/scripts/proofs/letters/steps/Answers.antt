@@ -1,13 +1,13 @@
 use Rattle.std.proofs.Common.{◌≡◌, ℕ, ◌-◌, ◌<◌, ◌≤◌, min, ◌⊎◌, List, map, length, take, drop, vec_items, sym, ap, ◌∙◌, subst, inl, inr, arith, length-drop, take_all, MatchResult}
 use Rattle.std.proofs.lemmas.List.{drop_all, drop-map}
-use Rattle.std.proofs.str.Laws.{order}
+use Rattle.std.proofs.lemmas.Bool.{cases_lt}
 use Rattle.scripts.specs.declared.fault.Fault.TheVariants.{Memory, Step}
 use Rattle.scripts.specs.Letters.{LettersAre, NoLetter}
 use Rattle.scripts.proofs.letters.steps.Goals as goal
 
 -- no more is dropped than there is
 drop_some : {X : Type 0} (k : ℕ) (xs : List X) (m : ℕ) → m ≡ min (length xs) k → drop m xs ≡ drop k xs
-drop_some k xs m e = go (order k (length xs))
+drop_some k xs m e = go (cases_lt k (length xs))
   where
     go : (k < length xs) ⊎ (length xs ≤ k) → drop m xs ≡ drop k xs
     go (inl lt) = let same : m ≡ k = omega arith in ap (λ n. drop n xs) same
