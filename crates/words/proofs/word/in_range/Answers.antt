@@ -1,6 +1,6 @@
 use Rattle.std.proofs.Common.{refl, subst, arith}
 use Rattle.std.proofs.lemmas.List.{length-map, take_all}
-use Rattle.std.specs.List.{AllByRecursion as All}
+use Rattle.std.specs.List.{AllByRecursion}
 use Rattle.words.proofs.Ranges.{InLetter, letter_of, letter_more, letter_out}
 use Rattle.words.proofs.word.in_range.Goals as goal
 use Rattle.words.proofs.word.in_range.Goals.{then-letter-gt-LONGEST_DELAY-via-then-letter-gt-LONGEST_DELAY, then-letter-gt-LONGEST_DELAY-via-else-letter-gt-LONGEST_DELAY+then-letter-gt-LAST_LABEL}
@@ -32,5 +32,5 @@ returns c =
       some_grid = omega arith;
       small_grid = c.if-grid-gt-MOST_PARTS.false;
       short = omega arith;
-      letters = subst (All InLetter) (take_all c.loop-letter.letter-index w (omega arith)) c.loop-letter.invariant;
+      letters = subst (AllByRecursion InLetter) (take_all c.loop-letter.letter-index w (omega arith)) c.loop-letter.invariant;
     }
