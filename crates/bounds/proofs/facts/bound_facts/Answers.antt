@@ -5,4 +5,4 @@ pub returns : goal.returns
 returns g c =
     let laws = g.met.R.Cell.lawful in
     let K = g.met.R.Reading.keeps in
-    record { below_zero_lem = below_zero_lem laws K; opposite_number_lem = opposite_number_lem laws K; room = room laws K; no_room = no_room laws K }
+    record { below_zero = below_zero_lem laws K; opposite_number = opposite_number_lem laws K; room = room laws K; no_room = no_room laws K }
