@@ -55,8 +55,8 @@ module _ {C : Type 0} {leq : C → C → Bool} {sum : C → C → C} {zero : C} 
       rw (e, at-M.1) (sign_below c N M m.0 here))
       made
 
-  pub below_zero_lem : BelowZero leq zero weight Counts greatest
-  below_zero_lem b w h N g =
+  pub below_zero : BelowZero leq zero weight Counts greatest
+  below_zero b w h N g =
       let light : weight zero + weight b ≤ limit = omega (arith, laws.light_zero) in
       let bounded = not_free b w zero (omega (arith, laws.light_zero)) h in
       let (c, small, made) = K.bounds.made b w bounded in
@@ -66,8 +66,8 @@ module _ {C : Type 0} {leq : C → C → Bool} {sum : C → C → C} {zero : C} 
       (both_ways (leq zero b) h
       ((K.third.exact zero b light zero_limited bounded).1 (λ M m. rw (zero_greatest M m) (one_sign b c (omega arith) made N M g m more)))))
 
-  pub opposite_number_lem : OppositeNumber weight Counts limited greatest opposite
-  opposite_number_lem b w e N g =
+  pub opposite_number : OppositeNumber weight Counts limited greatest opposite
+  opposite_number b w e N g =
       let G = greatest b N in
       let H = greatest (opposite b) N in
       let low : (neg_ℤ G -ℤ pos 1) ≤ℤ H =
@@ -96,9 +96,9 @@ module _ {C : Type 0} {leq : C → C → Bool} {sum : C → C → C} {zero : C} 
       (both_ways (leq b b') h
       ((K.third.exact b b' (omega arith) b-limited bounded').1
       (λ N g.
-      let less : greatest (sum b o) N <ℤ pos 0 = below_zero_lem (sum b o) s-weight e N g in
+      let less : greatest (sum b o) N <ℤ pos 0 = below_zero (sum b o) s-weight e N g in
       let parts : (greatest b N +ℤ greatest o N) ≤ℤ greatest (sum b o) N = K.fourth.sum_greatest b o light b-limited o-limited N g in
-      let turned : greatest o N ≡ neg_ℤ (greatest b' N) -ℤ pos 1 = opposite_number_lem b' (omega arith) bounded' N g in
+      let turned : greatest o N ≡ neg_ℤ (greatest b' N) -ℤ pos 1 = opposite_number b' (omega arith) bounded' N g in
       omega (arith, ints)))))
       (cases_Bool (leq zero (sum b o)))
 
@@ -119,7 +119,7 @@ module _ {C : Type 0} {leq : C → C → Bool} {sum : C → C → C} {zero : C} 
       (λ (e : leq zero (sum b o) ≡ true).
       let least : leq zero (sum b (sum o zero)) ≡ true = laws.order.le_trans zero (sum b o) (sum b (sum o zero)) (omega arith) e grows in
       let adds : pos 0 ≤ℤ (greatest b N +ℤ (greatest o N +ℤ pos 0)) = enough (b ∷ o ∷ []) refl (omega arith) (b-limited, (o-limited, tt)) least in
-      let turned : greatest o N ≡ neg_ℤ (greatest b' N) -ℤ pos 1 = opposite_number_lem b' (omega arith) bounded' N g in
+      let turned : greatest o N ≡ neg_ℤ (greatest b' N) -ℤ pos 1 = opposite_number b' (omega arith) bounded' N g in
       let less : greatest b N ≤ℤ greatest b' N = (K.third.exact b b' (omega arith) b-limited bounded').0 h N g in
       absurd (omega (arith, ints)))
       (λ (e : leq zero (sum b o) ≡ false). e)

@@ -1,5 +1,6 @@
 // Bounds on differences of clock values: an order, a sum and a neutral bound, and what they mean under a reading of time.
 #![tactic(auto)]
+
 ghost use Rattle.std.specs.Prelude.{◌≡◌, ℕ, ◌+◌, ◌≤◌, Bool, true, false, ℤ, Option, unsigned_abs};
 ghost use Rattle.bounds.specs.Laws.{Laws};
 ghost use Rattle.bounds.specs.Keeps.{Keeps, limit, in_four_bytes};

@@ -11,7 +11,7 @@ use Rattle.bounds.specs.Dense.{half, bit, twice}
 use Rattle.half_ticks.specs.HalfTicks.{greatest_of, half_counts, half_leq, half_sum, half_zero, half_weight, half_limited, half_greatest, half_most, half_below, half_free, half_opposite, half_code, half_read}
 use Rattle.bounds.specs.Codes.{some_same, none_some, read_differ, opposites_meet, opposites_part}
 use Rattle.bounds.specs.Halves.{bit_le, code_is, half_of}
-use Rattle.half_ticks.specs.HalfLaws.{refl_law, half_laws}
+use Rattle.half_ticks.specs.HalfLaws.{refl_law, half_order, half_sums}
 
 at_one : (x : ℤ) (N : ℕ) → N ≡ 1 → greatest_of x N ≡ half x
 at_one x N e = rw e refl
@@ -36,18 +36,6 @@ below_law c N (inr e) = rw (at_two (twice c -ℤ pos 1) N e, doubled c N e) refl
 bit_cases : (x : ℤ) → (bit x ≡ 1) ⊎ (bit x ≡ 0)
 bit_cases x =
     ⊎_elim (λ (h : bit x < 1). inr (omega arith)) (λ (h : 1 ≤ bit x). inl (omega (arith, bit_le x))) (cases_lt (bit x) 1)
-
-made_limit : (x : ℤ) → (c : ℤ) × (unsigned_abs c ≤ half_weight (Limit x)) × Made half_most half_below (Limit x) c
-made_limit x =
-    let is = code_is x in
-    ⊎_elim
-    (λ (odd : bit x ≡ 1). (half x +ℤ pos 1, omega (arith, ints), inr (ap Limit (omega (arith, ints)))))
-    (λ (even : bit x ≡ 0). (half x, omega (arith, ints), inl (ap Limit (omega (arith, ints)))))
-    (bit_cases x)
-
-made_law : (b : HalfTick) → half_limited b ≡ true → (c : ℤ) × (unsigned_abs c ≤ half_weight b) × Made half_most half_below b c
-made_law (Limit x) e = made_limit x
-made_law Free e = absurd (false≢true e)
 
 free_only_law : (b : HalfTick) → half_limited b ≡ false → b ≡ half_free
 free_only_law (Limit x) e = absurd (true≢false e)
@@ -216,7 +204,7 @@ half_keeps = record {
   first = inl refl;
   second = λ c _ N g. (most_law c N g.1, below_law c N g.1);
   third = record {
-    order = half_laws.order;
+    order = half_order;
     free_above = λ b _. free_above_law b;
     free_alone = λ b _. free_alone_law b;
     alike_code = λ a b _ e. tied_law a b e.0 e.1;
@@ -227,7 +215,7 @@ half_keeps = record {
     exact = λ a b _ e f. (λ p N g. order_meets_law a b e f p N g.1, λ all. meets_order_law a b e f (all 2 (omega arith, inr refl)));
   };
   fourth = record {
-    sums = half_laws.sums;
+    sums = half_sums;
     zero_made = refl;
     sum_limited = λ a b _. sum_limited_law a b;
     sum_greatest = λ a b _ e f N g. sum_greatest_law a b e f N g.1;
@@ -240,3 +228,15 @@ half_keeps = record {
   };
   sixth = fine;
 }
+  where
+    made_limit : (x : ℤ) → (c : ℤ) × (unsigned_abs c ≤ half_weight (Limit x)) × Made half_most half_below (Limit x) c
+    made_limit x =
+        let is = code_is x in
+        ⊎_elim
+        (λ (odd : bit x ≡ 1). (half x +ℤ pos 1, omega (arith, ints), inr (ap Limit (omega (arith, ints)))))
+        (λ (even : bit x ≡ 0). (half x, omega (arith, ints), inl (ap Limit (omega (arith, ints)))))
+        (bit_cases x)
+
+    made_law : (b : HalfTick) → half_limited b ≡ true → (c : ℤ) × (unsigned_abs c ≤ half_weight b) × Made half_most half_below b c
+    made_law (Limit x) e = made_limit x
+    made_law Free e = absurd (false≢true e)

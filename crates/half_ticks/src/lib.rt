@@ -1,5 +1,6 @@
 // The reading under which grids 1 and 2 count.
 #![tactic(auto)]
+
 ghost use Rattle.half_ticks.specs.HalfTicks.{half_counts, half_leq, half_sum, half_zero, half_weight, half_limited, half_greatest, half_most, half_below, half_free, half_opposite, half_code, half_read};
 ghost use Rattle.half_ticks.specs.HalfLaws.{half_laws};
 ghost use Rattle.half_ticks.specs.HalfKeeps.{half_keeps};
