@@ -29,11 +29,10 @@ fn check_crowd(
     file: &[u8],
     word: &[Letter],
     expected: (u8, usize),
-) -> Result<(), Fail> {
+) {
     let mut table = Table::bare();
     assert!(rt; table.load(file).is_ok());
     assert_eq!(rt; numbers(replay(&table, 1, word)), expected);
-    Ok(())
 }
 
 #[test]
@@ -41,17 +40,19 @@ fn crowds(rt: HostRuntime) -> Result<(), Fail> {
     let heap = rt.alloc();
     let most = fan(heap, 64).ok_or("memory")?;
     let more = fan(heap, 65).ok_or("memory")?;
-    check_crowd(&rt, most.as_slice(), &[STEP], (0, 1))?;
-    check_crowd(&rt, more.as_slice(), &[STEP], (24, 0))?;
-    check_crowd(&rt, most.as_slice(), &[STEP, LOST], (0, 0))?;
-    check_crowd(&rt, more.as_slice(), &[STEP, LOST], (24, 0)).note("too many, and none later")?;
+    check_crowd(&rt, most.as_slice(), &[STEP], (0, 1));
+    check_crowd(&rt, more.as_slice(), &[STEP], (24, 0));
+    check_crowd(&rt, most.as_slice(), &[STEP, LOST], (0, 0));
+    // Too many, and none later.
+    check_crowd(&rt, more.as_slice(), &[STEP, LOST], (24, 0));
     let late = late_fan(heap, 64).ok_or("memory")?;
     let later = late_fan(heap, 65).ok_or("memory")?;
-    check_crowd(&rt, late.as_slice(), &[LEAD, STEP], (0, 1))?;
-    check_crowd(&rt, later.as_slice(), &[LEAD, STEP], (24, 1))?;
-    check_crowd(&rt, later.as_slice(), &[LEAD, STEP, LOST], (24, 1))?;
-    check_crowd(&rt, later.as_slice(), &[LEAD], (0, 1))?;
-    check_crowd(&rt, later.as_slice(), &[], (0, 1))
+    check_crowd(&rt, late.as_slice(), &[LEAD, STEP], (0, 1));
+    check_crowd(&rt, later.as_slice(), &[LEAD, STEP], (24, 1));
+    check_crowd(&rt, later.as_slice(), &[LEAD, STEP, LOST], (24, 1));
+    check_crowd(&rt, later.as_slice(), &[LEAD], (0, 1));
+    check_crowd(&rt, later.as_slice(), &[], (0, 1));
+    Ok(())
 }
 
 // Many edges to one state make no crowd.
@@ -61,7 +62,8 @@ fn one_state(rt: HostRuntime) -> Result<(), Fail> {
     for _ in 0..200 {
         add_edge(&mut file, 0, 0, 0, 0).ok_or("memory")?;
     }
-    check_crowd(&rt, file.as_slice(), &[STEP, STEP], (0, 1))
+    check_crowd(&rt, file.as_slice(), &[STEP, STEP], (0, 1));
+    Ok(())
 }
 
 // The longest word and delay, and one more.
@@ -73,18 +75,19 @@ fn ranges(rt: HostRuntime) -> Result<(), Fail> {
         delay: 1_000_000_000,
         label: 31,
     };
-    check_crowd(&rt, file.as_slice(), &[longest; 256], (0, 1))?;
-    check_crowd(&rt, file.as_slice(), &[longest; 257], (13, 0))?;
+    check_crowd(&rt, file.as_slice(), &[longest; 256], (0, 1));
+    check_crowd(&rt, file.as_slice(), &[longest; 257], (13, 0));
     let later = Letter {
         delay: 1_000_000_001,
         label: 31,
     };
-    check_crowd(&rt, file.as_slice(), &[longest, later], (13, 0))?;
+    check_crowd(&rt, file.as_slice(), &[longest, later], (13, 0));
     let higher = Letter {
         delay: 0,
         label: 32,
     };
-    check_crowd(&rt, file.as_slice(), &[higher], (13, 0))
+    check_crowd(&rt, file.as_slice(), &[higher], (13, 0));
+    Ok(())
 }
 
 // A step of label 0 is one at the delay exactly where the comparison holds.
@@ -94,12 +97,12 @@ fn check_edge(
     grid: u32,
     delay: u32,
     holds: bool,
-) -> Result<(), Fail> {
+    place: &str,
+) {
     let mut table = Table::bare();
     assert!(rt; table.load(file).is_ok());
     let word = [Letter { delay, label: 0 }];
-    assert_eq!(rt; numbers(replay(&table, grid, &word)), (0, holds as usize));
-    Ok(())
+    assert_eq!(rt; numbers(replay(&table, grid, &word)), (0, holds as usize), "{place}");
 }
 
 // The delays just below, at and just above three ticks, for one comparison.
@@ -112,9 +115,10 @@ fn check_comparison(
     above: bool,
 ) -> Result<(), Fail> {
     let limit = grid.checked_mul(3).ok_or("grid")?;
-    check_edge(rt, file, grid, limit.saturating_sub(1), below).note("below")?;
-    check_edge(rt, file, grid, limit, at).note("at")?;
-    check_edge(rt, file, grid, limit.saturating_add(1), above).note("above")
+    check_edge(rt, file, grid, limit.saturating_sub(1), below, "below");
+    check_edge(rt, file, grid, limit, at, "at");
+    check_edge(rt, file, grid, limit.saturating_add(1), above, "above");
+    Ok(())
 }
 
 #[test]
