@@ -4,7 +4,7 @@ use Rattle.std.proofs.lemmas.Nat.{one_shl}
 use Rattle.std.proofs.ByRecursion.{All-get_or}
 use Rattle.std.proofs.lemmas.List.{take_all}
 use Rattle.std.proofs.lemmas.List.Sums.{fold_more}
-use Rattle.std.specs.List.{AllByRecursion as All}
+use Rattle.std.specs.List.{AllByRecursion}
 use Rattle.models.specs.Format.{label_of, EdgeRecord, Accepted}
 use Rattle.models.specs.Model.{places_of, labels_of}
 use Rattle.models.specs.Laws.Places.{places_lawful}
@@ -13,7 +13,7 @@ use Rattle.models.proofs.index.find_labels.Goals as goal
 
 low_label : (bs places : List ℕ) (i : ℕ) → Accepted bs → places ≡ places_of bs → i < length places → label_of bs (get_or places i 0) < 32
 low_label bs places i ok is lt =
-    let e = All-get_or (EdgeRecord bs) places i 0 lt (subst (All (EdgeRecord bs)) (sym is) (places_lawful bs ok)) in omega (arith, e.label)
+    let e = All-get_or (EdgeRecord bs) places i 0 lt (subst (AllByRecursion (EdgeRecord bs)) (sym is) (places_lawful bs ok)) in omega (arith, e.label)
 
 pub overflow_shl-labels : goal.overflow_shl-labels
 overflow_shl-labels c =
