@@ -1,5 +1,6 @@
 // The product of two machines.
 #![tactic(auto)]
+
 mod edges;
 pub mod pair;
 mod part;

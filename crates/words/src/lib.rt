@@ -1,5 +1,6 @@
 // Timed words of machines.
 #![tactic(auto)]
+
 mod follow;
 pub mod laws;
 pub mod replay;

@@ -1,7 +1,7 @@
 -- Lists read by place.
 use Rattle.std.specs.Prelude.{◌≡◌, ℕ, zero, suc, ◌<◌, ◌≤◌, Bool, true, false, cond, List, [], ◌∷◌, ◌++◌, map, length, Some, filter, refl}
 use Rattle.std.proofs.Common.{ap, subst, ◌∙◌, arith}
-use Rattle.std.specs.List.{slice_get, flat_map, AllByRecursion as All}
+use Rattle.std.specs.List.{slice_get, flat_map, AllByRecursion}
 use Rattle.std.specs.Option.{option_map}
 
 pub nth_map : {X Y : Type 0} (f : X → Y) (xs : List X) (k : ℕ) → slice_get (map f xs) k ≡ option_map f (slice_get xs k)
@@ -20,12 +20,12 @@ nth_inside [] k x e = absurd (let z : ◌≡◌ {A = ℕ} 0 1 = cc in omega arit
 nth_inside (y ∷ xs) zero x e = omega arith
 nth_inside (y ∷ xs) (suc k) x e = omega (arith, nth_inside xs k x e)
 
-pub all_nth : {X : Type 0} (P : X → Type 0) (xs : List X) (k : ℕ) (x : X) → All P xs → slice_get xs k ≡ Some x → P x
+pub all_nth : {X : Type 0} (P : X → Type 0) (xs : List X) (k : ℕ) (x : X) → AllByRecursion P xs → slice_get xs k ≡ Some x → P x
 all_nth P [] k x a e = absurd (let z : ◌≡◌ {A = ℕ} 0 1 = cc in omega arith)
 all_nth P (y ∷ xs) zero x a e = let same : y ≡ x = cc in subst P same a.0
 all_nth P (y ∷ xs) (suc k) x a e = all_nth P xs k x a.1 e
 
-pub nth_all : {X : Type 0} (P : X → Type 0) (xs : List X) → ((k : ℕ) (x : X) → slice_get xs k ≡ Some x → P x) → All P xs
+pub nth_all : {X : Type 0} (P : X → Type 0) (xs : List X) → ((k : ℕ) (x : X) → slice_get xs k ≡ Some x → P x) → AllByRecursion P xs
 nth_all P [] h = tt
 nth_all P (y ∷ xs) h = (h 0 y refl, nth_all P xs (λ k. h (suc k)))
 
