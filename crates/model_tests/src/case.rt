@@ -5,7 +5,8 @@ use crate::model::check_table;
 use machines::refusal::Refusal;
 use models::table::Table;
 use std::alloc::Global;
-use std::test::*;
+use std::process::Abort;
+use std::test::Fail;
 
 // The number and the place of a refusal, or 0 and the number of edges.
 fn numbers(answer: Result<(), Refusal>, edges: u32) -> (u8, usize) {
@@ -15,15 +16,20 @@ fn numbers(answer: Result<(), Refusal>, edges: u32) -> (u8, usize) {
     }
 }
 
-// Loads the good file and then the other, which gives these numbers. Where it is refused the table answers as before.
-fn check_files<'x>(good: &'x [u8], file: &'x [u8], expected: (u8, usize)) -> Result<(), Fail> {
+// Loads the good file and then the other, the row's, which gives these numbers. Where it is refused the table answers as before.
+fn check_files<'x>(
+    rt: &impl Abort,
+    good: &'x [u8],
+    file: &'x [u8],
+    expected: (u8, usize),
+    row: &str,
+) {
     let mut table = Table::bare();
     let _ = table.load(good);
     let answer = table.load(file);
-    assert_eq!(numbers(answer, table.edges()), expected);
-    match answer {
-        Ok(()) => Ok(()),
-        Err(_) => check_table(&table, &SEVERAL),
+    assert_eq!(rt; numbers(answer, table.edges()), expected, "{row}");
+    if answer.is_err() {
+        check_table(rt, &table, &SEVERAL, row);
     }
 }
 
@@ -38,10 +44,10 @@ fn read_row(heap: Global, row: &str) -> Option<(u8, usize, Vec<u8>)> {
 }
 
 // Checks each row of the table, each after the good file.
-pub fn check_rows(heap: Global, good: &[u8], rows: &str) -> Result<(), Fail> {
+pub fn check_rows(rt: &impl Abort, heap: Global, good: &[u8], rows: &str) -> Result<(), Fail> {
     for row in rows.lines() {
         let (number, place, file) = read_row(heap, row).ok_or(row)?;
-        check_files(good, file.as_slice(), (number, place)).note(row)?;
+        check_files(rt, good, file.as_slice(), (number, place), row);
     }
     Ok(())
 }

@@ -1,5 +1,6 @@
 // Tests of model files: which are refused, with what number and place, and how an accepted one is read.
 #![tactic(auto)]
+
 #[cfg(test)]
 mod bytes;
 #[cfg(test)]

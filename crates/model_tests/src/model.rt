@@ -4,7 +4,7 @@ use machines::machine::Machine;
 use models::table::Table;
 use std::alloc::Global;
 use std::process::Abort;
-use std::test::*;
+use std::test::Fail;
 
 // A location and its number of edges.
 pub type Count = (u32, Option<u32>);
@@ -30,50 +30,55 @@ fn sizes(t: &Table) -> (u32, u8, u32, u32, u32) {
     (t.locations(), t.clocks(), t.edges(), t.width(), t.labels())
 }
 
-fn check_counts(t: &Table, rows: &[Count]) -> Result<(), Fail> {
+// Each check names the file where it fails.
+fn check_counts(rt: &impl Abort, t: &Table, rows: &[Count], file: &str) {
     for row in rows {
-        assert_eq!(t.edge_count(row.0), row.1, "{}", row.0);
+        assert_eq!(rt; t.edge_count(row.0), row.1, "{}; {file}", row.0);
     }
-    Ok(())
 }
 
-fn check_heads(t: &Table, rows: &[Head]) -> Result<(), Fail> {
+fn check_heads(rt: &impl Abort, t: &Table, rows: &[Head], file: &str) {
     for row in rows {
-        assert_eq!(t.edge_head(row.0, row.1), row.2, "{}; {}", row.0, row.1);
+        assert_eq!(rt;
+            t.edge_head(row.0, row.1),
+            row.2,
+            "{}; {}; {file}",
+            row.0,
+            row.1
+        );
     }
-    Ok(())
 }
 
-fn check_atoms(t: &Table, rows: &[Atom]) -> Result<(), Fail> {
+fn check_atoms(rt: &impl Abort, t: &Table, rows: &[Atom], file: &str) {
     for row in rows {
-        assert_eq!(
+        assert_eq!(rt;
             t.atom(row.0, row.1, row.2),
             row.3,
-            "{}; {}; {}",
+            "{}; {}; {}; {file}",
             row.0,
             row.1,
             row.2
         );
     }
-    Ok(())
 }
 
 // The table answers as the model says.
-pub fn check_table(t: &Table, model: &Model) -> Result<(), Fail> {
-    assert_eq!(sizes(t), model.sizes);
-    check_counts(t, model.counts)?;
-    check_heads(t, model.heads)?;
-    check_atoms(t, model.atoms)
+pub fn check_table(rt: &impl Abort, t: &Table, model: &Model, file: &str) {
+    assert_eq!(rt; sizes(t), model.sizes, "{file}");
+    check_counts(rt, t, model.counts, file);
+    check_heads(rt, t, model.heads, file);
+    check_atoms(rt, t, model.atoms, file);
 }
 
-fn check_file(rt: &impl Abort, file: &[u8], model: &Model) -> Result<(), Fail> {
+fn check_file(rt: &impl Abort, file: &[u8], model: &Model) {
     let mut table = Table::bare();
     assert!(rt; table.load(file).is_ok());
-    check_table(&table, model)
+    check_table(rt, &table, model, model.words);
 }
 
 pub fn check_model(rt: &impl Abort, heap: Global, model: &Model) -> Result<(), Fail> {
     let file = build(heap, model.words).ok_or("no file")?;
     assert_eq!(rt; file.len(), model.length);
-    check_file(rt, file.as_slice(), model)
+    check_file(rt, file.as_slice(), model);
+    Ok(())
 }

@@ -4,27 +4,29 @@ use crate::case::check_rows;
 use crate::files::{LARGEST, SEVERAL};
 use crate::model::check_model;
 use crate::rows::{ACCEPTED, BROKEN_TWICE, REFUSED};
-use std::test::*;
+use std::alloc::Global;
+use std::process::Abort;
+use std::test::Fail;
 
 // Each row is read after a good file.
-fn run(rt: HostRuntime, rows: &str) -> Result<(), Fail> {
-    let good = build(rt.alloc(), SEVERAL.words).ok_or("no file")?;
-    check_rows(rt.alloc(), good.as_slice(), rows)
+fn run(rt: &impl Abort, heap: Global, rows: &str) -> Result<(), Fail> {
+    let good = build(heap, SEVERAL.words).ok_or("no file")?;
+    check_rows(rt, heap, good.as_slice(), rows)
 }
 
 #[test]
 fn refused(rt: HostRuntime) -> Result<(), Fail> {
-    run(rt, REFUSED)
+    run(&rt, rt.alloc(), REFUSED)
 }
 
 #[test]
 fn broken_twice(rt: HostRuntime) -> Result<(), Fail> {
-    run(rt, BROKEN_TWICE)
+    run(&rt, rt.alloc(), BROKEN_TWICE)
 }
 
 #[test]
 fn accepted(rt: HostRuntime) -> Result<(), Fail> {
-    run(rt, ACCEPTED)
+    run(&rt, rt.alloc(), ACCEPTED)
 }
 
 #[test]

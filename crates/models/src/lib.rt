@@ -1,5 +1,6 @@
 // Model files: a timed automaton as records of bytes.
 #![tactic(auto)]
+
 mod check;
 mod index;
 mod layout;

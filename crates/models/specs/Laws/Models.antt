@@ -8,7 +8,7 @@ use Rattle.std.proofs.lemmas.List.FromFn.{length-map-range_with_len, get_or-map-
 use Rattle.std.proofs.ByRecursion.{all_kept_by, All-map, All-get_or, All-weaker}
 use Rattle.std.proofs.lemmas.List.{length-map, get_or_past}
 use Rattle.std.proofs.lemmas.Bool.{cases_lt, eq-eqb, ne_eqb}
-use Rattle.std.specs.List.{slice_get, range_with_len, AllByRecursion as All}
+use Rattle.std.specs.List.{slice_get, range_with_len, AllByRecursion}
 use Rattle.std.specs.Option.{option_map}
 use Rattle.machines.specs.Automaton.{Atom, Edge, bit, leaving, edge_at, on_clock, LawfulAtom, LawfulEdge, Carried, Lawful}
 use Rattle.machines.specs.Laws.Lists.{nth_map, from_map, all_nth, Stands, stands_kept, length-kept}
@@ -26,19 +26,19 @@ largest_keeps : (n : ℕ) (ns : List ℕ) → n ≤ fold max n ns
 largest_keeps n [] = omega arith
 largest_keeps n (m ∷ ns) = omega (arith, le-max_left n m, largest_keeps (max n m) ns)
 
-largest_has : (n : ℕ) (ns : List ℕ) → All (λ m. m ≤ fold max n ns) ns
+largest_has : (n : ℕ) (ns : List ℕ) → AllByRecursion (λ m. m ≤ fold max n ns) ns
 largest_has n [] = tt
 largest_has n (m ∷ ns) = (omega (arith, le-max_right n m, largest_keeps (max n m) ns), largest_has (max n m) ns)
 
-largest_small : (k n : ℕ) (ns : List ℕ) → n ≤ k → All (λ m. m ≤ k) ns → fold max n ns ≤ k
+largest_small : (k n : ℕ) (ns : List ℕ) → n ≤ k → AllByRecursion (λ m. m ≤ k) ns → fold max n ns ≤ k
 largest_small k n [] h a = h
 largest_small k n (m ∷ ns) h a = largest_small k (max n m) ns (max-le h a.0) a.1
 
-counting_below : (a n : ℕ) → All (λ j. j < a + n) (range_with_len a n)
+counting_below : (a n : ℕ) → AllByRecursion (λ j. j < a + n) (range_with_len a n)
 counting_below a zero = tt
-counting_below a (suc n) = (omega arith, subst (λ m. All (λ j. j < m) (range_with_len (a + 1) n)) (omega arith) (counting_below (a + 1) n))
+counting_below a (suc n) = (omega arith, subst (λ m. AllByRecursion (λ j. j < m) (range_with_len (a + 1) n)) (omega arith) (counting_below (a + 1) n))
 
-all_any : {X : Type 0} (P : X → Type 0) → ((x : X) → P x) → (xs : List X) → All P xs
+all_any : {X : Type 0} (P : X → Type 0) → ((x : X) → P x) → (xs : List X) → AllByRecursion P xs
 all_any P h [] = tt
 all_any P h (x ∷ xs) = (h x, all_any P h xs)
 
@@ -50,7 +50,7 @@ few_on_clock x (a ∷ atoms) = go (a.clock == x) (few_on_clock x atoms)
     go true h = omega arith
     go false h = omega arith
 
-all_both : (P Q R : ℕ → Type 0) → ((x : ℕ) → P x → Q x → R x) → (xs : List ℕ) → All P xs → All Q xs → All R xs
+all_both : (P Q R : ℕ → Type 0) → ((x : ℕ) → P x → Q x → R x) → (xs : List ℕ) → AllByRecursion P xs → AllByRecursion Q xs → AllByRecursion R xs
 all_both P Q R f [] p q = tt
 all_both P Q R f (x ∷ xs) p q = (f x p.0 q.0, all_both P Q R f xs p.1 q.1)
 
@@ -104,7 +104,7 @@ module _ (bs : List ℕ) (ok : Accepted bs) where
 
   -- ---- the edges
 
-  listed : All (λ at. bit (labels_of bs) (label_of bs at) ≡ 1) (places_of bs)
+  listed : AllByRecursion (λ at. bit (labels_of bs) (label_of bs at) ≡ 1) (places_of bs)
   unfolding labels_of
   listed = union_has (label_of bs) 0 (places_of bs)
 
@@ -125,7 +125,7 @@ module _ (bs : List ℕ) (ok : Accepted bs) where
     few_atoms = λ x. omega (arith, few_on_clock x (edge_read bs at).atoms, length-map-range_with_len (λ i. atom_read bs (place_of_atom at i)) 0 (count_of bs at), e.few_atoms);
   }
 
-  each_lawful : All (λ at. LawfulEdge (model bs) (edge_read bs at)) (places_of bs)
+  each_lawful : AllByRecursion (λ at. LawfulEdge (model bs) (edge_read bs at)) (places_of bs)
   each_lawful =
       all_both (EdgeRecord bs) (λ at. bit (labels_of bs) (label_of bs at) ≡ 1) (λ at. LawfulEdge (model bs) (edge_read bs at)) edge_lawful (places_of bs) (places_lawful bs ok) listed
 

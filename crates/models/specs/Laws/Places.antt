@@ -4,7 +4,7 @@ use Rattle.std.proofs.Math.Path.{refl, ap}
 use Rattle.std.proofs.Common.{◌∙◌}
 use native.Mathlib.Omega.{arith}
 use Rattle.std.proofs.lemmas.Bool.{eq-eqb, ne_eqb, cond-true, cond-false}
-use Rattle.std.specs.List.{AllByRecursion as All}
+use Rattle.std.specs.List.{AllByRecursion}
 use Rattle.models.specs.Format.{size_of, from_of, EdgeRecord, Chain, ended, edged, Accepted}
 use Rattle.models.specs.Model.{places_from, places_of}
 use Rattle.models.specs.Laws.Files.{lawful_from}
@@ -34,7 +34,7 @@ module _ (bs : List ℕ) where
 
   -- along a chain each edge is lawful, and the locations that they leave do not fall
   chain_places : (room previous at : ℕ) → Chain bs room previous at
-      → All (EdgeRecord bs) (places_from room bs at) × Sorted (from_of bs) previous (places_from room bs at)
+      → AllByRecursion (EdgeRecord bs) (places_from room bs at) × Sorted (from_of bs) previous (places_from room bs at)
   chain_places room previous at (ended _ _ _ e) = rw (places_done room at e) (tt, tt)
   chain_places _ previous at (edged room _ _ e h rest) =
       let ne : at ≡ length bs → ⊥ = λ same. omega (arith, e.whole, e.size) in
@@ -44,7 +44,7 @@ module _ (bs : List ℕ) where
       rw step ((e, more.0), (h, more.1))
 
   module _ (ok : Accepted bs) where
-    pub places_lawful : All (EdgeRecord bs) (places_of bs)
+    pub places_lawful : AllByRecursion (EdgeRecord bs) (places_of bs)
     unfolding places_of
     places_lawful = (chain_places 1024 0 8 (lawful_from bs ok).edges).0
 

@@ -5,10 +5,10 @@ use Rattle.std.proofs.ByRecursion.{All-weaker}
 use Rattle.std.proofs.lemmas.List.{length-take, length-drop, get_or-take, get_or-drop}
 use Rattle.std.proofs.lemmas.Option.{slice_get-get_or, slice_get_past}
 use Rattle.std.proofs.lemmas.Bool.{cases_lt, cases_order, lt-ltb, le-ltb, eq-eqb, ne_eqb, cond-true, cond-false}
-use Rattle.std.specs.List.{slice_get, AllByRecursion as All}
+use Rattle.std.specs.List.{slice_get, AllByRecursion}
 use Rattle.machines.specs.Laws.Lists.{length-kept}
 
-pub none_kept : (test : ℕ → Bool) (xs : List ℕ) → All (λ x. test x ≡ false) xs → filter test xs ≡ []
+pub none_kept : (test : ℕ → Bool) (xs : List ℕ) → AllByRecursion (λ x. test x ≡ false) xs → filter test xs ≡ []
 none_kept test [] a = refl
 none_kept test (x ∷ xs) a = cond-false (test x) _ _ a.0 ∙ none_kept test xs a.1
 
@@ -22,7 +22,7 @@ module _ (key : ℕ → ℕ) where
   abbrev pub number_below : ℕ → List ℕ → ℕ
   number_below l xs = length (filter (λ x. ltb (key x) l) xs)
 
-  above : (low : ℕ) (xs : List ℕ) → Sorted low xs → (n : ℕ) → n ≤ low → All (λ x. n ≤ key x) xs
+  above : (low : ℕ) (xs : List ℕ) → Sorted low xs → (n : ℕ) → n ≤ low → AllByRecursion (λ x. n ≤ key x) xs
   above low [] s n h = tt
   above low (x ∷ xs) s n h = (omega (arith, s.0), above (key x) xs s.1 n (omega (arith, s.0)))
 

@@ -5,7 +5,7 @@ use Rattle.std.specs.Int.Bits.{bit_or}
 use Rattle.std.proofs.Math.Pow.{pow-lt}
 use Rattle.std.proofs.lemmas.Nat.{shl-shr, or_lt, or_shr, or_mod}
 use Rattle.std.proofs.lemmas.Bool.{cases_lt}
-use Rattle.std.specs.List.{AllByRecursion as All}
+use Rattle.std.specs.List.{AllByRecursion}
 use Rattle.machines.specs.Automaton.{bit}
 use Rattle.machines.specs.Laws.Lists.{Stands}
 use Rattle.machines.specs.Laws.Masks.{bit_below}
@@ -66,7 +66,7 @@ module _ (f : ℕ → ℕ) where
   union_keeps m (p ∷ ps) b e = union_keeps (bit_or m (2 ^ f p)) ps b (bit_or_to m (2 ^ f p) b (inl e))
 
   -- each label is in the union
-  pub union_has : (m : ℕ) (ps : List ℕ) → All (λ p. bit (union m ps) (f p) ≡ 1) ps
+  pub union_has : (m : ℕ) (ps : List ℕ) → AllByRecursion (λ p. bit (union m ps) (f p) ≡ 1) ps
   union_has m [] = tt
   union_has m (p ∷ ps) =
       (union_keeps (bit_or m (2 ^ f p)) ps (f p) (bit_or_to m (2 ^ f p) (f p) (inr (bit_power (f p)))), union_has (bit_or m (2 ^ f p)) ps)
@@ -80,7 +80,7 @@ module _ (f : ℕ → ℕ) where
         | inr later ↦ inr (later.0, (suc later.1.0, later.1.1), later.2)
       ]
 
-  pub union_small : (m : ℕ) (ps : List ℕ) → m < 2 ^ 32 → All (λ p. f p ≤ 31) ps → union m ps < 2 ^ 32
+  pub union_small : (m : ℕ) (ps : List ℕ) → m < 2 ^ 32 → AllByRecursion (λ p. f p ≤ 31) ps → union m ps < 2 ^ 32
   union_small m [] h a = h
   union_small m (p ∷ ps) h a =
       union_small (bit_or m (2 ^ f p)) ps (or_lt 32 m (2 ^ f p) h (pow-lt {i = f p} {j = 32} (omega (arith, a.0)))) a.1

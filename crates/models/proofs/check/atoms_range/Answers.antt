@@ -4,9 +4,9 @@ use Rattle.models.specs.Format.{place_of_atom, atom_in_range}
 use Rattle.models.specs.Laws.Atoms.{each_more, each_fails}
 use Rattle.models.proofs.check.atoms_range.Goals as goal
 
-pub returns-then-not-atom-range : goal.returns-then-not-atom-range
+pub returns-then-not-atom_range : goal.returns-then-not-atom_range
 unfolding atom_in_range
-returns-then-not-atom-range c =
+returns-then-not-atom_range c =
     let fails : atom_in_range c.args.bytes.now (place_of_atom c.args.at c.loop-i.i) ≡ false = grind (arith, nat_tests) in
     sym (each_fails atom_in_range c.args.bytes.now c.args.at c.args.count c.loop-i.i c.loop-i-test.true fails)
 

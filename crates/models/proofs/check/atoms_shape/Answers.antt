@@ -4,9 +4,9 @@ use Rattle.models.specs.Format.{place_of_atom, atom_has_shape}
 use Rattle.models.specs.Laws.Atoms.{each_more, each_fails}
 use Rattle.models.proofs.check.atoms_shape.Goals as goal
 
-pub returns-then-u16-at-ne0 : goal.returns-then-u16-at-ne0
+pub returns-then-u16_at-ne0 : goal.returns-then-u16_at-ne0
 unfolding atom_has_shape
-returns-then-u16-at-ne0 c =
+returns-then-u16_at-ne0 c =
     let fails : atom_has_shape c.args.bytes.now (place_of_atom c.args.at c.loop-i.i) ≡ false = grind (arith, nat_tests) in
     sym (each_fails atom_has_shape c.args.bytes.now c.args.at c.args.count c.loop-i.i c.loop-i-test.true fails)
 

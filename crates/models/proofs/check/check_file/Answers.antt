@@ -9,24 +9,24 @@ pub returns-then-bytes-gt65536 : goal.returns-then-bytes-gt65536
 unfolding verdict
 returns-then-bytes-gt65536 c = grind (arith, nat_tests)
 
-pub returns-then-is-empty : goal.returns-then-is-empty
+pub returns-then-is_empty : goal.returns-then-is_empty
 unfolding verdict
-returns-then-is-empty c = grind (arith, nat_tests)
+returns-then-is_empty c = grind (arith, nat_tests)
 
-pub returns-in-err-check-head : goal.returns-in-err-check-head
+pub returns-in_err-check_head : goal.returns-in_err-check_head
 unfolding verdict
-returns-in-err-check-head c =
-    let p = err_from_is_err_and c.from-residual.result c.from-residual.ensures.1 in
-    let refused = sym c.check-head.ensures ∙ c.in-err-check-head.was in
+returns-in_err-check_head c =
+    let p = err_from_is_err_and c.from_residual.result c.from_residual.ensures.1 in
+    let refused = sym c.check_head.ensures ∙ c.in_err-check_head.was in
     grind (arith, nat_tests)
 
-pub check-edges-requires : goal.check-edges-requires
-check-edges-requires c =
-    let head = head_from c.args.bytes.now (sym c.check-head.ensures ∙ c.in-ok-check-head.was) in
+pub check_edges-requires : goal.check_edges-requires
+check_edges-requires c =
+    let head = head_from c.args.bytes.now (sym c.check_head.ensures ∙ c.in_ok-check_head.was) in
     (head.whole, (c.if-bytes-gt65536.false, head.few_clocks))
 
 pub returns : goal.returns
 unfolding verdict
 returns c =
-    let accepted = sym c.check-head.ensures ∙ c.in-ok-check-head.was in
+    let accepted = sym c.check_head.ensures ∙ c.in_ok-check_head.was in
     grind (arith, nat_tests)

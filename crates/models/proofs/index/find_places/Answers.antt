@@ -11,8 +11,8 @@ unfolding places_of
 loop-at-init c =
     let parts = accepted_parts c.args.bytes.now c.requires.0 in (omega arith, parts.1.whole, refl, (0, parts.2))
 
-pub overflow-cast-places : goal.overflow-cast-places
-overflow-cast-places c = let small = (accepted_parts c.args.bytes.now c.requires.0).0 in omega arith
+pub overflow_cast-places : goal.overflow_cast-places
+overflow_cast-places c = let small = (accepted_parts c.args.bytes.now c.requires.0).0 in omega arith
 
 pub bounds-places-n : goal.bounds-places-n
 bounds-places-n c =
@@ -32,8 +32,8 @@ loop-at-preserved c =
     let ne : at ≡ length bs → ⊥ = omega arith in
     let next = edges_next bs (1024 - n) at c.loop-at.invariant.3.0 ne c.loop-at.invariant.3.1 in
     let less : 1024 - n - 1 ≡ 1024 - (n + 1) = omega arith in
-    let size : size_of bs at ≡ c.u16-at.result = sym c.u16-at.ensures in
-    let rest = places_from (1024 - (n + 1)) bs (at + c.u16-at.result) in
+    let size : size_of bs at ≡ c.u16_at.result = sym c.u16_at.ensures in
+    let rest = places_from (1024 - (n + 1)) bs (at + c.u16_at.result) in
     let step : places_from (1024 - n) bs at ≡ at ∷ rest =
     places_step bs (1024 - n) at ne next.1 ∙ ap₂ (λ room s. at ∷ places_from room bs (at + s)) less size in
     let more = take_more_set c.loop-at.places n at (omega (arith, next.1, c.requires.1)) in (

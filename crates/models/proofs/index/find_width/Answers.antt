@@ -13,8 +13,8 @@ bounds-first-l c = let head = (accepted_parts c.args.bytes.now c.requires.0).1 i
 pub bounds-first-l-in-loop-l : goal.bounds-first-l-in-loop-l
 bounds-first-l-in-loop-l c = let head = (accepted_parts c.args.bytes.now c.requires.0).1 in omega (arith, head.few_locations)
 
-pub overflow-sub-first : goal.overflow-sub-first
-overflow-sub-first c =
+pub overflow_sub-first : goal.overflow_sub-first
+overflow_sub-first c =
     let head = (accepted_parts c.args.bytes.now c.requires.0).1 in
     let low : c.loop-l.l + 1 < 257 = omega (arith, head.few_locations) in
     omega (arith, c.requires.1.1 c.loop-l.l (omega arith), c.requires.1.1 (c.loop-l.l + 1) low, below_more c.args.bytes.now c.loop-l.l)

@@ -12,6 +12,6 @@ pub returns : goal.returns
 unfolding two_bytes places_from places_of widest labels_of
 returns c = refl
 
-pub invariant-of-result : goal.invariant-of-result
+pub invariant_of-result : goal.invariant_of-result
 unfolding two_bytes framed head_has_kind head_has_shape head_in_range head_verdict edges_verdict verdict
-invariant-of-result c = (refl, (c.of.ensures, tt))
+invariant_of-result c = record { accepted = refl; indexed = c.of.ensures }

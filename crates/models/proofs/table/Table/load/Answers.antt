@@ -3,11 +3,11 @@ use Rattle.std.proofs.lemmas.Result.{err_from_is_err_and}
 use Rattle.models.specs.Laws.Files.{lawful_from, lawful_to}
 use Rattle.models.proofs.table.Table.load.Goals as goal
 
-pub returns-in-err-check-file : goal.returns-in-err-check-file
-returns-in-err-check-file c =
+pub returns-in_err-check_file : goal.returns-in_err-check_file
+returns-in_err-check_file c =
     let file = c.args.file.now in
-    let p = err_from_is_err_and c.from-residual.result c.from-residual.ensures.1 in
-    let same = p.1 ∙ ap Err p.2 ∙ sym c.in-err-check-file.was ∙ c.check-file.ensures in
+    let p = err_from_is_err_and c.from_residual.result c.from_residual.ensures.1 in
+    let same = p.1 ∙ ap Err p.2 ∙ sym c.in_err-check_file.was ∙ c.check_file.ensures in
     record {
       answer = same;
       lawful = (λ h. lawful_from file (sym (ap is_ok same) ∙ h), λ h. ap is_ok same ∙ lawful_to file h);
@@ -18,7 +18,7 @@ returns-in-err-check-file c =
 pub returns : goal.returns
 returns c =
     let file = c.args.file.now in
-    let same = sym c.in-ok-check-file.was ∙ c.check-file.ensures in
+    let same = sym c.in_ok-check_file.was ∙ c.check_file.ensures in
     record {
       answer = same;
       lawful = (λ _. lawful_from file (ap is_ok (sym same)), λ _. refl);

@@ -1,4 +1,4 @@
-use Rattle.std.proofs.Common.{◌≡◌, ℕ, ◌+◌, ◌-◌, get_or, Some, sym, ap, ◌∙◌, arith}
+use Rattle.std.proofs.Common.{◌≡◌, ℕ, ◌+◌, get_or, Some, sym, ap, ◌∙◌, arith}
 use Rattle.std.proofs.lemmas.List.{get_or-take}
 use Rattle.std.specs.List.{slice_get}
 use Rattle.models.specs.Model.{places_of}
@@ -17,8 +17,8 @@ returns-then-location-ge256 c =
     let none = none_past bs ok c.args.location (omega (arith, (accepted_parts bs ok).1.few_locations, c.if-location-ge256.true)) in
     record { place = sym (ap (λ ps. slice_get ps c.args.k) none); within = tt }
 
-pub overflow-sub-high : goal.overflow-sub-high
-overflow-sub-high c =
+pub overflow_sub-high : goal.overflow_sub-high
+overflow_sub-high c =
     let t = c.args.self.now in
     omega (arith, t.indexed.2 c.args.location (omega arith), t.indexed.2 (c.args.location + 1) (omega arith), below_more t.bytes.now c.args.location)
 

@@ -14,8 +14,8 @@ bounds-self-l c = let t = c.args.self.now in omega (arith, (accepted_parts t.byt
 pub bounds-self-l-2 : goal.bounds-self-l-2
 bounds-self-l-2 c = let t = c.args.self.now in omega (arith, (accepted_parts t.bytes.now t.accepted).1.few_locations, c.locations.ensures)
 
-pub overflow-sub-result : goal.overflow-sub-result
-overflow-sub-result c =
+pub overflow_sub-result : goal.overflow_sub-result
+overflow_sub-result c =
     let t = c.args.self.now in
     let low : c.args.location + 1 < 257 = omega (arith, (accepted_parts t.bytes.now t.accepted).1.few_locations, c.locations.ensures) in
     omega (arith, t.indexed.2 c.args.location (omega arith), t.indexed.2 (c.args.location + 1) low, below_more t.bytes.now c.args.location)
