@@ -1,5 +1,6 @@
 // Tests of the replay of timed words.
 #![tactic(auto)]
+
 #[cfg(test)]
 mod files;
 #[cfg(test)]

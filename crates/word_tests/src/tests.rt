@@ -24,12 +24,7 @@ const LEAD: Letter = Letter { delay: 1, label: 1 };
 const LOST: Letter = Letter { delay: 1, label: 2 };
 
 // Replays the word at grid 1 on the machine of the file.
-fn check_crowd(
-    rt: &impl Abort,
-    file: &[u8],
-    word: &[Letter],
-    expected: (u8, usize),
-) {
+fn check_crowd(rt: &impl Abort, file: &[u8], word: &[Letter], expected: (u8, usize)) {
     let mut table = Table::bare();
     assert!(rt; table.load(file).is_ok());
     assert_eq!(rt; numbers(replay(&table, 1, word)), expected);
@@ -91,18 +86,15 @@ fn ranges(rt: HostRuntime) -> Result<(), Fail> {
 }
 
 // A step of label 0 is one at the delay exactly where the comparison holds.
-fn check_edge(
-    rt: &impl Abort,
-    file: &[u8],
-    grid: u32,
-    delay: u32,
-    holds: bool,
-    place: &str,
-) {
+fn check_edge(rt: &impl Abort, file: &[u8], grid: u32, delay: u32, holds: bool, place: &str) {
     let mut table = Table::bare();
     assert!(rt; table.load(file).is_ok());
     let word = [Letter { delay, label: 0 }];
-    assert_eq!(rt; numbers(replay(&table, grid, &word)), (0, holds as usize), "{place}");
+    assert_eq!(rt;
+        numbers(replay(&table, grid, &word)),
+        (0, holds as usize),
+        "{place}"
+    );
 }
 
 // The delays just below, at and just above three ticks, for one comparison.
