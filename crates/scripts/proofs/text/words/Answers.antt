@@ -15,8 +15,8 @@ loop-word-smaller c =
 pub loop-word-preserved : goal.loop-word-preserved
 loop-word-preserved c =
     let next = c.in-Some.ensures in
-    subst (λ ws. Found (words_of c.args.line.now) ws c.in-Some.after.now) (sym c.in-ok-push.ensures.items)
+    subst (λ ws. Found (words_of c.args.line.now) ws c.in-Some.after.now) (sym c.in_ok-push.ensures.items)
     (found_more _ _ c.loop-word.rest.now c.in-Some.word c.in-Some.after.now c.loop-word.invariant next.0 next.1 next.2)
 
 pub returns : goal.returns
-returns c = found_all _ _ c.loop-word.rest.now c.loop-word.invariant c.in-default.ensures
+returns c = found_all _ _ c.loop-word.rest.now c.loop-word.invariant c.in_default.ensures
