@@ -45,9 +45,13 @@ pub record Found (words : List (List ℕ)) (found : List (Bor (List ℕ))) (rest
   pub enough : length rest ≤ more
   pub all : map (λ x. x.now) found ++ words_by more rest ≡ words
 
-pub found_none : (line rest : List ℕ) → rest ≡ code_of line → Found (words_of line) [] rest
+pub found_none : (line rest : List ℕ) (found : List (Bor (List ℕ))) → found ≡ [] → rest ≡ code_of line → Found (words_of line) found rest
 unfolding words_of
-found_none line rest is = record { more = length (code_of line); enough = omega (arith, ap length is); all = ap (words_by (length (code_of line))) is }
+found_none line rest found none is = record {
+  more = length (code_of line);
+  enough = omega (arith, ap length is);
+  all = ap₂ (λ ws bs. map (λ x. x.now) ws ++ words_by (length (code_of line)) bs) none is;
+}
 
 pub found_all : (words : List (List ℕ)) (found : List (Bor (List ℕ))) (rest : List ℕ) → Found words found rest → length (past Blanks rest) ≡ 0 → map (λ x. x.now) found ≡ words
 found_all words found rest h none = sym (append-nil (map (λ x. x.now) found)) ∙ ap (λ ws. map (λ x. x.now) found ++ ws) (sym (words_none h.more rest none)) ∙ h.all

@@ -1,12 +1,10 @@
-use Rattle.std.proofs.Common.{length, sym, ap, subst, arith}
+use Rattle.std.proofs.Common.{length, sym, ap, subst, arith, rules}
 use Rattle.scripts.specs.Lines.{words_of}
 use Rattle.scripts.proofs.Words.{Found, falls, found_none, found_all, found_more}
 use Rattle.scripts.proofs.text.words.Goals as goal
 
 pub loop-word-init : goal.loop-word-init
-loop-word-init c =
-    subst (λ ws. Found (words_of c.args.line.now) ws c.code-rest.result.now) (sym c.new-found.ensures.items)
-    (found_none c.args.line.now c.code-rest.result.now c.code-rest.ensures)
+loop-word-init c = search (rules, found_none)
 
 pub loop-word-smaller : goal.loop-word-smaller
 loop-word-smaller c =
