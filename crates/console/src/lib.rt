@@ -1,5 +1,6 @@
 // The machines that a script has named.
 #![tactic(auto)]
+
 pub mod answer;
 pub mod part;
 pub mod session;

@@ -1,5 +1,5 @@
 -- The words of a text, one by one.
-use Rattle.std.proofs.Common.{◌≡◌, ℕ, zero, suc, ◌+◌, ◌-◌, ◌<◌, ◌≤◌, Bool, true, false, cond, not, eqb, List, [], ◌∷◌, ◌++◌, map, length, get_or, take, drop, sym, refl, ap, ◌∙◌, subst, ap₂, append_assoc, append-nil, one-add, arith, length-drop, Bor, eq-eqb, ne_eqb}
+use Rattle.std.proofs.Common.{◌≡◌, ℕ, zero, suc, ◌+◌, ◌<◌, ◌≤◌, Bool, true, false, cond, not, List, [], ◌∷◌, ◌++◌, map, length, get_or, drop, sym, refl, ap, ◌∙◌, subst, ap₂, append_assoc, append-nil, one-add, arith, length-drop, Bor, eq-eqb, ne_eqb}
 use Rattle.std.proofs.lemmas.List.{map-append}
 use Rattle.std.specs.List.{prefix_len}
 use Rattle.scripts.specs.declared.text.Run.TheVariants.{Blanks, Word}
@@ -45,9 +45,13 @@ pub record Found (words : List (List ℕ)) (found : List (Bor (List ℕ))) (rest
   pub enough : length rest ≤ more
   pub all : map (λ x. x.now) found ++ words_by more rest ≡ words
 
-pub found_none : (line rest : List ℕ) → rest ≡ code_of line → Found (words_of line) [] rest
+pub found_none : (line rest : List ℕ) (found : List (Bor (List ℕ))) → found ≡ [] → rest ≡ code_of line → Found (words_of line) found rest
 unfolding words_of
-found_none line rest is = record { more = length (code_of line); enough = omega (arith, ap length is); all = ap (words_by (length (code_of line))) is }
+found_none line rest found none is = record {
+  more = length (code_of line);
+  enough = omega (arith, ap length is);
+  all = ap₂ (λ ws bs. map (λ x. x.now) ws ++ words_by (length (code_of line)) bs) none is;
+}
 
 pub found_all : (words : List (List ℕ)) (found : List (Bor (List ℕ))) (rest : List ℕ) → Found words found rest → length (past Blanks rest) ≡ 0 → map (λ x. x.now) found ≡ words
 found_all words found rest h none = sym (append-nil (map (λ x. x.now) found)) ∙ ap (λ ws. map (λ x. x.now) found ++ ws) (sym (words_none h.more rest none)) ∙ h.all

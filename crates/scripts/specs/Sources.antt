@@ -1,5 +1,5 @@
 -- The source that a word stands for.
-use Rattle.std.specs.Prelude.{◌≡◌, ℕ, List, [], ◌∷◌, codes, ◌≢◌, slice_index}
+use Rattle.std.specs.Prelude.{◌≡◌, ℕ, List, ◌∷◌, codes, ◌≢◌, slice_index}
 use Rattle.scripts.specs.declared.source.Source.{Source}
 use Rattle.scripts.specs.declared.source.Source.TheVariants.{Empty, File, Digits}
 

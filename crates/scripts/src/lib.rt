@@ -1,5 +1,6 @@
 // The statements of a script.
 #![tactic(auto)]
+
 pub mod fault;
 pub mod hex;
 pub mod letters;

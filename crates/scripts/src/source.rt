@@ -15,7 +15,7 @@ pub enum Source<'a> {
 pub fn source_of(word: &[u8]) -> Source<'_>
     ensures { SourceIs word.now result }
 {
-    if word == b"-" {
+    if word == b"-".as_slice() {
         return Source::Empty;
     }
     if word.is_empty() {

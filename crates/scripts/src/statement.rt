@@ -51,19 +51,19 @@ pub enum Statement<'a> {
 fn recognize(word: &[u8]) -> Option<Keyword>
     ensures { Recognized word.now result }
 {
-    if word == b"table" {
+    if word == b"table".as_slice() {
         return Some(Keyword::Table);
     }
-    if word == b"deadline" {
+    if word == b"deadline".as_slice() {
         return Some(Keyword::Deadline);
     }
-    if word == b"pair" {
+    if word == b"pair".as_slice() {
         return Some(Keyword::Pair);
     }
-    if word == b"describe" {
+    if word == b"describe".as_slice() {
         return Some(Keyword::Describe);
     }
-    if word == b"replay" {
+    if word == b"replay".as_slice() {
         return Some(Keyword::Replay);
     }
     None

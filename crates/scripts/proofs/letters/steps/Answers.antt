@@ -1,4 +1,4 @@
-use Rattle.std.proofs.Common.{◌≡◌, ℕ, ◌-◌, ◌<◌, ◌≤◌, min, ◌⊎◌, List, map, length, take, drop, vec_items, sym, ap, ◌∙◌, subst, inl, inr, arith, length-drop, take_all, MatchResult}
+use Rattle.std.proofs.Common.{◌≡◌, ℕ, ◌-◌, ◌<◌, ◌≤◌, min, ◌⊎◌, List, map, length, drop, vec_items, sym, ap, ◌∙◌, subst, inl, inr, arith, length-drop, take_all, MatchResult}
 use Rattle.std.proofs.lemmas.List.{drop_all, drop-map}
 use Rattle.std.proofs.lemmas.Bool.{cases_lt}
 use Rattle.scripts.specs.declared.fault.Fault.TheVariants.{Memory, Step}

@@ -1,4 +1,4 @@
-use Rattle.std.proofs.Common.{◌≡◌, ℕ, ◌≤◌, true, false, List, [], ◌∷◌, map, length, sym, ap, ◌∙◌, arith, Bor, eqb-true, leb-true}
+use Rattle.std.proofs.Common.{◌≡◌, ℕ, true, List, [], ◌∷◌, length, sym, ap, ◌∙◌, arith, Bor, eqb-true, leb-true}
 use Rattle.std.proofs.lemmas.List.{length-map}
 use Rattle.scripts.specs.declared.statement.Keyword.{Keyword}
 use Rattle.scripts.specs.Spelling.{spelling, fitting}
@@ -8,10 +8,10 @@ use Rattle.scripts.proofs.statement.parse.Goals as goal
 pub returns-then-count-eq0 : goal.returns-then-count-eq0
 returns-then-count-eq0 c = as_none c.args.words.now c.if-count-eq0.true
 
-pub returns-in-default : goal.returns-in-default
-returns-in-default c =
+pub returns-in_default : goal.returns-in_default
+returns-in_default c =
     let ws = c.args.words.now in
-    (omega (arith, length-map ws (λ x. x.now), c.if-count-eq0.false), λ k is. c.in-default.ensures k (sym (word_is ws 0) ∙ is))
+    (omega (arith, length-map ws (λ x. x.now), c.if-count-eq0.false), λ k is. c.in_default.ensures k (sym (word_is ws 0) ∙ is))
 
 pub returns-then-not-fits : goal.returns-then-not-fits
 returns-then-not-fits c =

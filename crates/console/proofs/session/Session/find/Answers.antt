@@ -1,4 +1,4 @@
-use Rattle.std.proofs.Common.{◌≡◌, cond, length, get_or, Some, vec_items, Decides, sym, refl, ap, ◌∙◌, subst, arith, take_all}
+use Rattle.std.proofs.Common.{◌≡◌, cond, length, get_or, Some, vec_items, Decides, sym, ap, ◌∙◌, arith, take_all}
 use Rattle.std.proofs.lemmas.Slice.Eq.{slice_eq-Decides}
 use Rattle.console.specs.Names.{latest}
 use Rattle.console.proofs.Entries.{latest_more}
@@ -12,7 +12,7 @@ loop-e-preserved c =
     let entries = vec_items c.args.self.now.entries in
     let e = c.e-item.result in
     let all = c.deref-e-items.ensures.value in
-    let read = c.as-slice.ensures.value in
+    let read = c.as_slice.ensures.value in
     let told = slice_eq-Decides Decides-eqb _ _ _ c.eq.ensures in
     let same : Decides c.eq.result (vec_items e.name ≡ name) = (λ t. sym read ∙ told.0 t, λ h. told.1 (read ∙ h)) in
     let here : e ≡ get_or entries c.loop-e.e-index e = c.e-item.is ∙ ap (λ es. get_or es c.loop-e.e-index e) all in

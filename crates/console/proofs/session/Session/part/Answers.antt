@@ -1,4 +1,4 @@
-use Rattle.std.proofs.Common.{vec_items, vec_len, sym, ap, ◌∙◌, arith}
+use Rattle.std.proofs.Common.{vec_items, vec_len, sym, arith}
 use Rattle.std.proofs.lemmas.Option.{slice_get_past, slice_get_read}
 use Rattle.console.proofs.session.Session.part.Goals as goal
 
