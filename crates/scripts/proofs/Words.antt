@@ -58,15 +58,15 @@ found_all words found rest h none = sym (append-nil (map (λ x. x.now) found)) �
 
 pub found_more : (words : List (List ℕ)) (found : List (Bor (List ℕ))) (rest : List ℕ) (word : Bor (List ℕ)) (after : List ℕ) → Found words found rest → 0 < length (past Blanks rest) → word.now ≡ front Word (past Blanks rest) → after ≡ past Word (past Blanks rest)
     → Found words (found ++ word ∷ []) after
-found_more words found rest word after h some is_IsWord is-after = go h.more h.enough h.all
+found_more words found rest word after h some is_word is_after = go h.more h.enough h.all
   where
     go : (n : ℕ) → length rest ≤ n → map (λ x. x.now) found ++ words_by n rest ≡ words → Found words (found ++ word ∷ []) after
     go zero enough all = absurd (omega (arith, falls rest some))
     go (suc n) enough all = record {
       more = n;
-      enough = omega (arith, falls rest some, ap length is-after);
+      enough = omega (arith, falls rest some, ap length is_after);
       all = ap (λ ws. ws ++ words_by n after) (map-append (λ x. x.now) found (word ∷ []))
           ∙ append_assoc (map (λ x. x.now) found) (word.now ∷ []) (words_by n after)
-          ∙ ap (λ ws. map (λ x. x.now) found ++ ws) (ap₂ (λ w bs. w ∷ words_by n bs) is_IsWord is-after ∙ sym (words_one n rest some))
+          ∙ ap (λ ws. map (λ x. x.now) found ++ ws) (ap₂ (λ w bs. w ∷ words_by n bs) is_word is_after ∙ sym (words_one n rest some))
           ∙ all;
     }
