@@ -1,4 +1,4 @@
-// Why a file is refused, or that it is not. Each test is named after the one that it is in specs/Format.antt.
+// Why a file is refused, or that it is not. Each test is that of the same record and number in specs/Format.antt.
 ghost use Rattle.std.specs.Prelude.{◌≡◌, ◌≤◌, length};
 ghost use Rattle.models.specs.Format.{clocks_of, framed, head_has_shape, head_in_range, each_atom, atom_has_shape, edge_has_shape, atom_in_range, edge_in_range, atom_is_known, edge_is_known, head_verdict, edge_verdict, edges_verdict, verdict};
 
