@@ -5,12 +5,14 @@ use Rattle.std.proofs.Common.{sym, ◌∙◌, ap, inl, inr, ⊎_elim, arith}
 use Rattle.std.proofs.lemmas.Int.{ints, by_lt_z}
 use Rattle.std.proofs.lemmas.List.{length-map}
 use Rattle.std.proofs.lemmas.Option.{none-some, same_Some}
-use Rattle.std.proofs.lemmas.Bool.{cases_Bool, true≢false, false≢true, and_parts}
+use Rattle.std.proofs.lemmas.Bool.{cases_Bool, false_from_ne_true, and_from, true≢false, false≢true, and_parts}
+use Rattle.std.proofs.lemmas.Bool.Decides.{Decides-int_eq}
+use Rattle.std.specs.Ordering.{int_eq}
 use Rattle.bounds.specs.declared.bound.Bound.{Bound}
 use Rattle.bounds.specs.Keeps.{Keeps, Grid, Made, Filed, Alike, FourBytes, Each, total, totalℤ, widest}
 use Rattle.bounds.specs.Codes.{read_differ, opposites_meet, opposites_part, times_order, times_apart}
 use Rattle.bounds.specs.Scales.{Scaled, EnoughCodes, free_code, lowest, highest}
-use Rattle.bounds.specs.Bounds.{limit_leq, limit_sum, bound_of, bound_leq, bound_sum, bound_weight, bound_limited, bound_greatest, bound_made, bound_free, bound_opposite, bound_code, bound_read}
+use Rattle.bounds.specs.Bounds.{limit_leq, limit_sum, bound_of, bound_leq, bound_sum, bound_weight, bound_limited, bound_greatest, bound_made, bound_free, bound_opposite, bound_code, bound_read, is_filed}
 use Rattle.bounds.specs.BoundLaws.{in_order, alike, bound_laws}
 
 -- ---- no limit, and limits
@@ -55,80 +57,77 @@ module _ {Counts : ℕ → Type 0} {weight : ℤ → ℕ} {greatest : ℤ → �
   made_law (Some x) e = let (c, small, made) = scale.made x in (c, small, made_bound x c made)
 
   -- ---- the codes that are read back
-  abbrev Near : ℤ → Type 0
-  Near z = (lowest below ≤ℤ z) × (z ≤ℤ highest most)
-
   -- the greatest numbers of 'at most c' and 'below c' are c × N and 1 less
   made_greatest : (x c : ℤ) → Made most below x c → (N : ℕ) → Grid Counts N → ((c *ℤ pos N -ℤ pos 1) ≤ℤ greatest x N) × (greatest x N ≤ℤ (c *ℤ pos N))
   made_greatest x c (inl e) N g = rw (e, scale.most_greatest c N g) (omega (arith, ints), omega (arith, ints))
   made_greatest x c (inr e) N g = rw (e, scale.below_greatest c N g) (omega (arith, ints), omega (arith, ints))
 
-  made_near : (x c : ℤ) → Made most below x c → unsigned_abs c ≤ widest → Near x
-  made_near x c made w = (
-    (scale.exact (lowest below) x).1
-        (λ N g.
-        let least = times_order (neg_ℤ (pos widest)) c N (omega (arith, ints)) in
-        rw (scale.below_greatest (neg_ℤ (pos widest)) N g) (omega (arith, ints, (made_greatest x c made N g).0))),
-    (scale.exact x (highest most)).1
-        (λ N g.
-        let most = times_order c (pos widest) N (omega (arith, ints)) in
-        rw (scale.most_greatest (pos widest) N g) (omega (arith, ints, (made_greatest x c made N g).1))),
-  )
+  -- 'below k' is no higher than a limit made from a constant of k or more, and no lower than one of less
+  from_below : (x c k : ℤ) → Made most below x c → k ≤ℤ c → below k ≤ℤ x
+  from_below x c k made h =
+      (scale.exact (below k) x).1 (λ N g. rw (scale.below_greatest k N g) (omega (arith, ints, (made_greatest x c made N g).0, times_order k c N h)))
 
-  -- a limit between 'below −1,000,000' and 'at most 1,000,000' is made from a constant within ±1,000,000
-  near_made : (x c : ℤ) → Made most below x c → Near x → (k : ℤ) × (unsigned_abs k ≤ widest) × Made most below x k
-  near_made x c made (low, high) =
-      let W = pos widest in
-      let one : Grid Counts 1 = (omega arith, scale.first) in
-      by_lt_z c (neg_ℤ W)
-      (λ (less : c <ℤ neg_ℤ W).
-      let back = (scale.exact x (below (neg_ℤ W))).1 (λ N g. rw (scale.below_greatest (neg_ℤ W) N g) (omega (arith, ints, (made_greatest x c made N g).1, times_apart c (neg_ℤ W) N less g.0))) in
-      (neg_ℤ W, omega (arith, ints), inr (same_code x (below (neg_ℤ W)) back low)))
-      (λ (more : neg_ℤ W ≤ℤ c).
-      by_lt_z W c
-      (λ (over : W <ℤ c).
-      let back = (scale.exact (most W) x).1 (λ N g. rw (scale.most_greatest W N g) (omega (arith, ints, (made_greatest x c made N g).0, times_apart W c N over g.0))) in
-      (W, omega (arith, ints), inl (same_code x (most W) high back)))
-      (λ (within : c ≤ℤ W). (c, omega (arith, ints), made)))
+  to_below : (x c k : ℤ) → Made most below x c → c <ℤ k → x ≤ℤ below k
+  to_below x c k made h =
+      (scale.exact x (below k)).1 (λ N g. rw (scale.below_greatest k N g) (omega (arith, ints, (made_greatest x c made N g).1, times_apart c k N h g.0)))
 
-  read_near : {S : Type 0} (x : ℤ) → Near x → FourBytes x × (bound_read {S = S} most below x ≡ Some (bound_of (Some x)))
-  read_near x (low, high) =
-      let taken : false ≡ int_le free_code x = omega (arith, ints, scale.highest_fits) in
-      let above : int_le (lowest below) x ≡ true = in_order (lowest below) x low in
-      let within : int_le x (highest most) ≡ true = in_order x (highest most) high in
-      ((omega (arith, ints, scale.lowest_fits), omega (arith, ints, scale.highest_fits)), rw (sym taken, above, within) refl)
+  -- the same of 'at most k'
+  to_most : (x c k : ℤ) → Made most below x c → c ≤ℤ k → x ≤ℤ most k
+  to_most x c k made h =
+      (scale.exact x (most k)).1 (λ N g. rw (scale.most_greatest k N g) (omega (arith, ints, (made_greatest x c made N g).1, times_order c k N h)))
+
+  from_most : (x c k : ℤ) → Made most below x c → k <ℤ c → most k ≤ℤ x
+  from_most x c k made h =
+      (scale.exact (most k) x).1 (λ N g. rw (scale.most_greatest k N g) (omega (arith, ints, (made_greatest x c made N g).0, times_apart k c N h g.0)))
+
+  -- a limit that is read back is made from a constant within ±1,000,000
+  near_made : (x c : ℤ) → Made most below x c → lowest below ≤ℤ x → x ≤ℤ highest most → (k : ℤ) × (unsigned_abs k ≤ widest) × Made most below x k
+  near_made x c made low high =
+      let wide = pos widest in
+      by_lt_z c (neg_ℤ wide)
+      (λ (less : c <ℤ neg_ℤ wide). (neg_ℤ wide, omega (arith, ints), inr (same_code x (lowest below) (to_below x c (neg_ℤ wide) made less) low)))
+      (λ (more : neg_ℤ wide ≤ℤ c).
+      by_lt_z wide c
+      (λ (over : wide <ℤ c). (wide, omega (arith, ints), inl (same_code x (highest most) high (from_most x c wide made over))))
+      (λ (within : c ≤ℤ wide). (c, omega (arith, ints), made)))
+
+  made_read : {S : Type 0} (x c : ℤ) → Made most below x c → unsigned_abs c ≤ widest → FourBytes x × (bound_read {S = S} most below x ≡ Some (bound_of (Some x)))
+  made_read x c made w =
+      let low = from_below x c (neg_ℤ (pos widest)) made (omega (arith, ints)) in
+      let high = to_most x c (pos widest) made (omega (arith, ints)) in
+      let limited : int_eq x free_code ≡ false = false_from_ne_true (int_eq x free_code) (λ e. omega (arith, ints, scale.highest_fits, (Decides-int_eq x free_code).0 e)) in
+      let filed : is_filed most below x ≡ true = and_from (int_le (lowest below) x) (int_le x (highest most)) (in_order (lowest below) x low) (in_order x (highest most) high) in
+      ((omega (arith, ints, scale.lowest_fits), omega (arith, ints, scale.highest_fits)), rw (limited, filed) refl)
 
   filed_law : {S : Type 0} (b : Bound S) → Filed (bound_made most) (bound_made below) bound_free b → FourBytes (bound_code b) × (bound_read most below (bound_code b) ≡ Some b)
   filed_law b (inl e) = rw e ((omega (arith, ints), omega (arith, ints)), refl)
-  filed_law b (inr (c, w, inl e)) = rw e (read_near (most c) (made_near (most c) c (inl refl) w))
-  filed_law b (inr (c, w, inr e)) = rw e (read_near (below c) (made_near (below c) c (inr refl) w))
+  filed_law b (inr (c, w, inl e)) = rw e (made_read (most c) c (inl refl) w)
+  filed_law b (inr (c, w, inr e)) = rw e (made_read (below c) c (inr refl) w)
 
   differ_law : {S : Type 0} (a b : Bound S) → Filed (bound_made most) (bound_made below) bound_free a → Filed (bound_made most) (bound_made below) bound_free b → (Alike bound_leq a b → ⊥) → bound_code a ≢ bound_code b
   differ_law a b f g = read_differ bound_leq bound_code (bound_read most below) a b (filed_law a f).1 (filed_law b g).1 (alike a a refl).0
 
-  filed_limit : {S : Type 0} (x : ℤ) → Near x → Filed (bound_made {S = S} most) (bound_made below) bound_free (bound_of (Some x))
-  filed_limit x near =
+  filed_limit : {S : Type 0} (x : ℤ) → is_filed most below x ≡ true → Filed (bound_made {S = S} most) (bound_made below) bound_free (bound_of (Some x))
+  filed_limit x filed =
+      let (low, high) = and_parts (int_le (lowest below) x) (int_le x (highest most)) filed in
       let (c, _, made) = scale.made x in
-      let (k, small, made_near) = near_made x c made near in
-      inr (k, small, made_bound x k made_near)
+      let (k, small, near) = near_made x c made (omega (arith, ints, low)) (omega (arith, ints, high)) in
+      inr (k, small, made_bound x k near)
 
   read_back : {S : Type 0} (z : ℤ) (b : Bound S) → bound_read most below z ≡ Some b → (bound_code b ≡ z) × Filed (bound_made most) (bound_made below) bound_free b
   read_back z b e =
       ⊎_elim
-      (λ (t : (int_le free_code z && int_le z free_code) ≡ true).
-      let parts = and_parts (int_le free_code z) (int_le z free_code) t in
-      let is_free : bound_free ≡ b = same_Some bound_free b (rw t at e) in
-      let same : free_code ≡ z = omega (arith, ints, parts.0, parts.1) in
-      rw (← is_free) (same, inl refl))
-      (λ (t : (int_le free_code z && int_le z free_code) ≡ false).
+      (λ (free : int_eq z free_code ≡ true).
+      let is_free : bound_free ≡ b = same_Some bound_free b (rw free at e) in
+      rw (← is_free) (sym ((Decides-int_eq z free_code).0 free), inl refl))
+      (λ (limited : int_eq z free_code ≡ false).
       ⊎_elim
-      (λ (f : (int_le (lowest below) z && int_le z (highest most)) ≡ true).
-      let parts = and_parts (int_le (lowest below) z) (int_le z (highest most)) f in
-      let is_limit : bound_of (Some z) ≡ b = same_Some (bound_of (Some z)) b (rw (t, f) at e) in
-      rw (← is_limit) (refl, filed_limit z (omega (arith, ints, parts.0), omega (arith, ints, parts.1))))
-      (λ (f : (int_le (lowest below) z && int_le z (highest most)) ≡ false). absurd (none-some b (rw (t, f) at e)))
-      (cases_Bool (int_le (lowest below) z && int_le z (highest most))))
-      (cases_Bool (int_le free_code z && int_le z free_code))
+      (λ (filed : is_filed most below z ≡ true).
+      let is_limit : bound_of (Some z) ≡ b = same_Some (bound_of (Some z)) b (rw (limited, filed) at e) in
+      rw (← is_limit) (refl, filed_limit z filed))
+      (λ (past : is_filed most below z ≡ false). absurd (none-some b (rw (limited, past) at e)))
+      (cases_Bool (is_filed most below z)))
+      (cases_Bool (int_eq z free_code))
 
   -- ---- the greatest numbers
   abbrev greatest_of : Option ℤ → ℕ → ℤ
@@ -161,7 +160,7 @@ module _ {Counts : ℕ → Type 0} {weight : ℤ → ℕ} {greatest : ℤ → �
   numbers [] N e = refl
   numbers (b ∷ bs) N e = rw (numbers bs N e.1) (ap (λ a. greatest_of a N +ℤ totalℤ (λ x. greatest x N) (map bound_code bs)) (limited_is b.limit e.0))
 
-  enough : {S : Type 0} (n N : ℕ) → EnoughCodes Counts weight greatest most below sum opposite n N → (bs : List (Bound S)) → length bs ≡ n → Each bound_limited bs → bound_leq (bound_made most (pos 0)) (total (bound_sum sum) (bound_made most (pos 0)) bs) ≡ true → pos 0 ≤ℤ totalℤ (λ b. bound_greatest greatest b N) bs
+  enough : {S : Type 0} (n N : ℕ) → EnoughCodes greatest most sum n N → (bs : List (Bound S)) → length bs ≡ n → Each bound_limited bs → bound_leq (bound_made most (pos 0)) (total (bound_sum sum) (bound_made most (pos 0)) bs) ≡ true → pos 0 ≤ℤ totalℤ (λ b. bound_greatest greatest b N) bs
   enough n N fine bs len each least =
       let known : int_le (most (pos 0)) (total sum (most (pos 0)) (map bound_code bs)) ≡ true = rw (totals bs each) at least in
       rw (numbers bs N each) (fine (map bound_code bs) (length-map bs bound_code ∙ len) (omega (arith, ints)))

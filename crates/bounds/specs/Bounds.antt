@@ -1,6 +1,7 @@
 -- Bounds over a scale: a limit, which has a code, or no limit.
 use Rattle.std.specs.Prelude.{ℕ, Bool, true, false, ◌&&◌, if◌then◌else◌, ℤ, pos, Some, None, Option, is_some, int_le}
 use Rattle.std.specs.Option.{option_map, option_map_or, unwrap_or}
+use Rattle.std.specs.Ordering.{int_eq}
 use Rattle.bounds.specs.declared.bound.Bound.{Bound}
 use Rattle.bounds.specs.Scales.{free_code, lowest, highest}
 
@@ -54,5 +55,5 @@ module _ {S : Type 0} where
 
   abbrev pub bound_read : (ℤ → ℤ) → (ℤ → ℤ) → ℤ → Option (Bound S)
   bound_read most below z =
-      if int_le free_code z && int_le z free_code then Some bound_free
+      if int_eq z free_code then Some bound_free
       else (if is_filed most below z then Some (bound_of (Some z)) else None)

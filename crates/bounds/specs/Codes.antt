@@ -1,7 +1,8 @@
--- What codes and their greatest numbers give: bounds that are read back have different codes, and greatest numbers that add to −1 are opposite.
+-- What codes and greatest numbers give: bounds that are read back have different codes, greatest numbers that add to −1 are opposite, and multiples of a constant are in its order.
 use Rattle.std.specs.Prelude.{◌≡◌, ℕ, ◌+◌, ◌≤◌, Bool, true, ◌⊎◌, ℤ, pos, ◌-ℤ◌, ◌*ℤ◌, neg_ℤ, ◌≤ℤ◌, ◌<ℤ◌, Some, Option, ◌≢◌}
 use Rattle.std.proofs.Common.{sym, ◌∙◌, ap, inl, inr, arith, mul-le-mul_right}
 use borrow.Author.Differences.{up, down}
+use Rattle.std.proofs.Math.IntN.{*ℤ-one}
 use Rattle.std.proofs.lemmas.Int.{ints, by_lt_z}
 use Rattle.std.proofs.lemmas.Option.{same_Some}
 use Rattle.bounds.specs.Keeps.{Alike}
@@ -16,6 +17,10 @@ opposites_meet g h d e = by_lt_z g d (λ (over : g <ℤ d). inr (omega (arith, i
 
 pub opposites_part : (g h d : ℤ) → h ≡ neg_ℤ g -ℤ pos 1 → d ≤ℤ g → neg_ℤ d ≤ℤ h → ⊥
 opposites_part g h d e p q = omega (arith, ints)
+
+-- at grid 1
+pub once : (x : ℤ) (N : ℕ) → N ≡ 1 → x *ℤ pos N ≡ x
+once x N e = rw e (*ℤ-one x)
 
 -- a lower constant has a lower multiple at each grid, by the grid or more
 pub times_order : (c d : ℤ) (N : ℕ) → c ≤ℤ d → (c *ℤ pos N) ≤ℤ (d *ℤ pos N)

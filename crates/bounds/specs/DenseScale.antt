@@ -143,7 +143,7 @@ totals_greatest (x ∷ xs) N =
     let times = ap (λ t. t * N) (sum_is_lem (half x) (totalℤ half xs)) in
     omega arith
 
-enough : (n : ℕ) → EnoughCodes dense_counts dense_weight dense_greatest dense_most dense_below dense_sum dense_opposite n n
+enough : (n : ℕ) → EnoughCodes dense_greatest dense_most dense_sum n n
 enough n xs len least =
     let t = total dense_sum (dense_most (pos 0)) xs in
     let (half_is, none) = totals xs in

@@ -16,11 +16,11 @@ lowest below = below (neg_ℤ (pos widest))
 abbrev pub highest : (ℤ → ℤ) → ℤ
 highest most = most (pos widest)
 
-module _ (Counts : ℕ → Type 0) (weight : ℤ → ℕ) (greatest : ℤ → ℕ → ℤ) (most below : ℤ → ℤ) (sum : ℤ → ℤ → ℤ) (opposite : ℤ → ℤ) where
-  -- any n limits, whose sum is not below 'at most 0', have greatest numbers at grid N that add to 0 or more
-  abbrev pub EnoughCodes : ℕ → ℕ → Type 0
-  EnoughCodes n N = (xs : List ℤ) → length xs ≡ n → most (pos 0) ≤ℤ total sum (most (pos 0)) xs → pos 0 ≤ℤ totalℤ (λ x. greatest x N) xs
+-- any n limits, whose sum is not below 'at most 0', have greatest numbers at grid N that add to 0 or more
+abbrev pub EnoughCodes : (ℤ → ℕ → ℤ) → (ℤ → ℤ) → (ℤ → ℤ → ℤ) → ℕ → ℕ → Type 0
+EnoughCodes greatest most sum n N = (xs : List ℤ) → length xs ≡ n → most (pos 0) ≤ℤ total sum (most (pos 0)) xs → pos 0 ≤ℤ totalℤ (λ x. greatest x N) xs
 
+module _ (Counts : ℕ → Type 0) (weight : ℤ → ℕ) (greatest : ℤ → ℕ → ℤ) (most below : ℤ → ℤ) (sum : ℤ → ℤ → ℤ) (opposite : ℤ → ℤ) where
   pub record Scaled : Type 0 where
     -- Grid 1 counts.
     pub first : Counts 1
@@ -48,4 +48,4 @@ module _ (Counts : ℕ → Type 0) (weight : ℤ → ℕ) (greatest : ℤ → �
     pub opposite_weight : (x : ℤ) → weight (opposite x) ≤ weight x + 1
     pub opposite_greatest : (x : ℤ) (N : ℕ) → Grid Counts N → greatest (opposite x) N ≡ neg_ℤ (greatest x N) -ℤ pos 1
     -- For every n from 1 up there is a counting grid, at most n, that is fine enough for n limits.
-    pub fine : (n : ℕ) → 0 < n → (N : ℕ) × Grid Counts N × (N ≤ n) × EnoughCodes n N
+    pub fine : (n : ℕ) → 0 < n → (N : ℕ) × Grid Counts N × (N ≤ n) × EnoughCodes greatest most sum n N

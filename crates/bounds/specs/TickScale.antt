@@ -3,11 +3,9 @@ use Rattle.std.specs.Prelude.{◌≡◌, ℕ, ◌↔◌, List, [], ◌∷◌, �
 use Rattle.std.proofs.Common.{sym, ◌∙◌, ap, inl, arith}
 use Rattle.std.proofs.lemmas.Int.{ints}
 use Rattle.bounds.specs.Keeps.{Grid, total, totalℤ}
+use Rattle.bounds.specs.Codes.{once}
 use Rattle.bounds.specs.Scales.{Scaled}
 use Rattle.bounds.specs.Tick.{tick_counts, tick_weight, tick_greatest, tick_most, tick_below, tick_sum, tick_opposite}
-
-once : (x : ℤ) (N : ℕ) → N ≡ 1 → x *ℤ pos N ≡ x
-once x N e = rw e (omega (arith, ints))
 
 exact_law : (x y : ℤ) → (x ≤ℤ y) ↔ ((N : ℕ) → Grid tick_counts N → tick_greatest x N ≤ℤ tick_greatest y N)
 exact_law x y = (λ p N g. rw (once x N g.1, once y N g.1) p, λ all. rw (once x 1 refl, once y 1 refl) at (all 1 (omega arith, refl)))

@@ -6,6 +6,7 @@ use Rattle.std.proofs.lemmas.Bool.{cases_lt}
 use Rattle.bounds.specs.Keeps.{Grid, Made, total, totalℤ}
 use Rattle.bounds.specs.Dense.{half, bit, twice}
 use Rattle.bounds.specs.Halves.{bit_le, bit_cases, code_is, half_of, size_sum}
+use Rattle.bounds.specs.Codes.{once}
 use Rattle.bounds.specs.Scales.{Scaled, EnoughCodes}
 use Rattle.half_ticks.specs.HalfTicks.{half_counts, half_weight, half_greatest, half_most, half_below, half_sum, half_opposite}
 
@@ -14,9 +15,6 @@ at_one x N e = rw e refl
 
 at_two : (x : ℤ) (N : ℕ) → N ≡ 2 → half_greatest x N ≡ x
 at_two x N e = rw e refl
-
-once : (x : ℤ) (N : ℕ) → N ≡ 1 → x *ℤ pos N ≡ x
-once x N e = rw e (omega (arith, ints))
 
 doubled : (x : ℤ) (N : ℕ) → N ≡ 2 → x *ℤ pos N ≡ twice x
 doubled x N e = rw e (omega (arith, ints))
@@ -29,14 +27,6 @@ most_law c N (inr e) = rw (at_two (twice c) N e, doubled c N e) refl
 below_law : (c : ℤ) (N : ℕ) → half_counts N → half_greatest (half_below c) N ≡ c *ℤ pos N -ℤ pos 1
 below_law c N (inl e) = rw (at_one (twice c -ℤ pos 1) N e, once c N e) (half_of (c -ℤ pos 1) (twice c -ℤ pos 1) 1 (omega arith) (omega (arith, ints)))
 below_law c N (inr e) = rw (at_two (twice c -ℤ pos 1) N e, doubled c N e) refl
-
-made_law : (x : ℤ) → (c : ℤ) × (unsigned_abs c ≤ half_weight x) × Made half_most half_below x c
-made_law x =
-    let is = code_is x in
-    ⊎_elim
-    (λ (odd : bit x ≡ 1). (half x +ℤ pos 1, omega (arith, ints), inr (omega (arith, ints))))
-    (λ (even : bit x ≡ 0). (half x, omega (arith, ints), inl (omega (arith, ints))))
-    (bit_cases x)
 
 -- ---- the greatest numbers
 order_meets : (x y : ℤ) (N : ℕ) → half_counts N → x ≤ℤ y → half_greatest x N ≤ℤ half_greatest y N
@@ -71,12 +61,12 @@ totals : (xs : List ℤ) → total half_sum (pos 0) xs ≡ totalℤ (λ x. half_
 totals [] = refl
 totals (x ∷ xs) = ap (λ t. x +ℤ t) (totals xs)
 
-enough_one : EnoughCodes half_counts half_weight half_greatest half_most half_below half_sum half_opposite 1 1
+enough_one : EnoughCodes half_greatest half_most half_sum 1 1
 enough_one [] len least = absurd (omega arith)
 enough_one (x ∷ []) len least = let is = code_is x in let small = bit_le x in omega (arith, ints)
 enough_one (x ∷ y ∷ xs) len least = absurd (omega arith)
 
-fine : (n : ℕ) → 0 < n → (N : ℕ) × Grid half_counts N × (N ≤ n) × EnoughCodes half_counts half_weight half_greatest half_most half_below half_sum half_opposite n N
+fine : (n : ℕ) → 0 < n → (N : ℕ) × Grid half_counts N × (N ≤ n) × EnoughCodes half_greatest half_most half_sum n N
 fine n h =
     ⊎_elim
     (λ (more : 1 < n). (2, (omega arith, inr refl), omega arith, λ xs _ least. rw (← totals xs) least))
@@ -90,7 +80,12 @@ half_scale = record {
   below_greatest = λ c N g. below_law c N g.1;
   most_weight = λ c. omega (arith, ints);
   below_weight = λ c. omega (arith, ints);
-  made = made_law;
+  made = λ x.
+      let is = code_is x in
+      ⊎_elim
+      (λ (odd : bit x ≡ 1). (half x +ℤ pos 1, omega (arith, ints), inr (omega (arith, ints))))
+      (λ (even : bit x ≡ 0). (half x, omega (arith, ints), inl (omega (arith, ints))))
+      (bit_cases x);
   lowest_fits = omega (arith, ints);
   highest_fits = omega (arith, ints);
   exact = λ x y. (λ p N g. order_meets x y N g.1 p, λ all. all 2 (omega arith, inr refl));
