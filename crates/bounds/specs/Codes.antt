@@ -2,7 +2,6 @@
 use Rattle.std.specs.Prelude.{◌≡◌, ℕ, ◌+◌, ◌≤◌, Bool, true, ◌⊎◌, ℤ, pos, ◌-ℤ◌, ◌*ℤ◌, neg_ℤ, ◌≤ℤ◌, ◌<ℤ◌, Some, Option, ◌≢◌}
 use Rattle.std.proofs.Common.{sym, ◌∙◌, ap, inl, inr, arith, mul-le-mul_right}
 use borrow.Author.Differences.{up, down}
-use Rattle.std.proofs.Math.IntN.{*ℤ-one}
 use Rattle.std.proofs.lemmas.Int.{ints, by_lt_z}
 use Rattle.std.proofs.lemmas.Option.{same_Some}
 use Rattle.bounds.specs.Keeps.{Alike}
@@ -20,7 +19,7 @@ opposites_part g h d e p q = omega (arith, ints)
 
 -- at grid 1
 pub once : (x : ℤ) (N : ℕ) → N ≡ 1 → x *ℤ pos N ≡ x
-once x N e = rw e (*ℤ-one x)
+once x N e = rw e (omega (arith, ints))
 
 -- a lower constant has a lower multiple at each grid, by the grid or more
 pub times_order : (c d : ℤ) (N : ℕ) → c ≤ℤ d → (c *ℤ pos N) ≤ℤ (d *ℤ pos N)

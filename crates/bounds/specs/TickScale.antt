@@ -1,5 +1,5 @@
 -- The tick scale keeps the laws of scales.
-use Rattle.std.specs.Prelude.{◌≡◌, ℕ, ◌↔◌, List, [], ◌∷◌, ℤ, pos, ◌+ℤ◌, ◌-ℤ◌, ◌*ℤ◌, neg_ℤ, ◌≤ℤ◌, refl}
+use Rattle.std.specs.Prelude.{◌≡◌, ℕ, ◌↔◌, List, [], ◌∷◌, ℤ, pos, ◌+ℤ◌, ◌-ℤ◌, neg_ℤ, ◌≤ℤ◌, refl}
 use Rattle.std.proofs.Common.{sym, ◌∙◌, ap, inl, arith}
 use Rattle.std.proofs.lemmas.Int.{ints}
 use Rattle.bounds.specs.Keeps.{Grid, total, totalℤ}

@@ -1,9 +1,9 @@
 -- Half ticks keep the laws of scales.
-use Rattle.std.specs.Prelude.{◌≡◌, ℕ, ◌<◌, ◌≤◌, List, [], ◌∷◌, ℤ, pos, ◌+ℤ◌, ◌-ℤ◌, ◌*ℤ◌, neg_ℤ, ◌≤ℤ◌, unsigned_abs, refl}
+use Rattle.std.specs.Prelude.{◌≡◌, ℕ, ◌<◌, ◌≤◌, List, [], ◌∷◌, ℤ, pos, ◌+ℤ◌, ◌-ℤ◌, ◌*ℤ◌, neg_ℤ, ◌≤ℤ◌, refl}
 use Rattle.std.proofs.Common.{ap, inl, inr, ⊎_elim, arith}
 use Rattle.std.proofs.lemmas.Int.{ints}
 use Rattle.std.proofs.lemmas.Bool.{cases_lt}
-use Rattle.bounds.specs.Keeps.{Grid, Made, total, totalℤ}
+use Rattle.bounds.specs.Keeps.{Grid, total, totalℤ}
 use Rattle.bounds.specs.Dense.{half, bit, twice}
 use Rattle.bounds.specs.Halves.{bit_le, bit_cases, code_is, half_of, size_sum}
 use Rattle.bounds.specs.Codes.{once}
