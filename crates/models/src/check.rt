@@ -75,9 +75,7 @@ impl Record<'_> {
     fn edge_in_range(&self) -> bool
         ensures { result ≡ edge_in_range self.now.bytes.now self.now.at }
     {
-        self.label() <= 31
-            && self.count() <= 4
-            && self.atoms_in_range()
+        self.label() <= 31 && self.count() <= 4 && self.atoms_in_range()
     }
 
     fn atoms_in_range(&self) -> bool
@@ -157,6 +155,7 @@ fn check_edges(bytes: &[u8]) -> Result<ArrayVec<u32, 1024>, Refusal>
 }
 
 // The whole file.
+#[tactic(auto, unfolding(crate::specs::Format::verdict))]
 pub(crate) fn check_file<'a>(bytes: &'a [u8]) -> Result<Edges<'a>, Refusal>
     ensures { MatchResult result (λ edges. edges.bytes.now ≡ bytes.now) (λ e. verdict bytes.now ≡ Err e) }
 {

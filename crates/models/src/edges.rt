@@ -1,12 +1,11 @@
 // Where the edges of an accepted file stand, so that each question takes a few reads.
-ghost use Rattle.std.specs.Prelude.{◌≡◌, ℕ, ◌<◌, length, slice_index};
+ghost use Rattle.std.specs.Prelude.{◌≡◌, ℕ, ◌<◌, ◌≤◌, length, slice_index};
 ghost use Rattle.models.specs.Format.{locations_of, Accepted};
 ghost use Rattle.models.specs.Model.{places_of, places_at, widest, labels_of};
 ghost use Rattle.models.specs.Index.{below};
 
 use crate::record::Record;
 use arrayvec::ArrayVec;
-use std::array;
 
 #[derive(Drop)]
 pub(crate) struct Edges<'a> {
@@ -20,14 +19,24 @@ pub(crate) struct Edges<'a> {
     ghost counted: { (l : ℕ) → l < 257 → slice_index first l ≡ below bytes.now l },
 }
 
+// How many of the edges at these places leave a location below `location`.
+fn count_below(bytes: &[u8], places: &[u32], location: usize) -> usize
+    requires { (Accepted bytes.now) × (places.now ≡ places_of bytes.now) }
+    ensures count { result ≡ below bytes.now location }
+    ensures few { result ≤ 1024 }
+{
+    places.partition_point(|at| (Record { bytes, at: *at }.from() as usize) < location)
+}
+
 impl<'a> Edges<'a> {
     pub fn new(bytes: &'a [u8], places: ArrayVec<u32, 1024>) -> Edges<'a>
         requires { (Accepted bytes.now) × (places.items ≡ places_of bytes.now) }
         ensures { result.bytes.now ≡ bytes.now }
     {
-        let first = array::from_fn(|l| {
-            places.partition_point(|at| (Record { bytes, at: *at }.from() as usize) < l) as u16
-        });
+        let mut first = [0; 257];
+        for (l, slot) in first.iter_mut().enumerate() {
+            *slot = count_below(bytes, &places, l) as u16;
+        }
         Edges {
             bytes,
             places,
@@ -47,15 +56,26 @@ impl<'a> Edges<'a> {
         &self.places[self.first[l] as usize..self.first[l + 1] as usize]
     }
 
+    // How many edges leave `location`.
+    pub fn count(&self, location: u32) -> u32
+        ensures { result ≡ length (places_at self.now.bytes.now location) }
+    {
+        self.leaving(location).len() as u32
+    }
+
     // The largest number of edges that leave a location.
     pub fn width(&self) -> u32
         ensures { result ≡ widest self.now.bytes.now (locations_of self.now.bytes.now) }
     {
-        let locations = Record { bytes: self.bytes, at: 0 }.locations();
+        let locations = Record {
+            bytes: self.bytes,
+            at: 0,
+        }
+        .locations();
         (0..locations as u32)
-            .map(|l| self.leaving(l).len())
+            .map(|l| self.count(l))
             .max()
-            .unwrap_or(0) as u32
+            .unwrap_or(0)
     }
 
     // The labels on edges, as a mask.
@@ -63,7 +83,12 @@ impl<'a> Edges<'a> {
         ensures { result ≡ labels_of self.now.bytes.now }
     {
         self.places.iter().fold(0, |mask, at| {
-            mask | 1u32 << Record { bytes: self.bytes, at: *at }.label()
+            mask | 1u32
+                << Record {
+                    bytes: self.bytes,
+                    at: *at,
+                }
+                .label()
         })
     }
 }

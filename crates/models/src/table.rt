@@ -9,6 +9,8 @@ ghost use Rattle.models.specs.Laws.Models.{model_lawful};
 use crate::check::check_file;
 use crate::edges::Edges;
 use crate::record::Record;
+use machines::atom::Atom;
+use machines::comparison::Comparison;
 use machines::machine::Machine;
 use machines::refusal::Refusal;
 
@@ -112,7 +114,7 @@ impl<'a> Machine for Table<'a> {
         if location >= self.locations() {
             return None;
         }
-        Some(self.edges.leaving(location).len() as u32)
+        Some(self.edges.count(location))
     }
 
     fn edge_head(&self, location: u32, k: u32) -> Option<(u8, u32, u8, u32)> {
@@ -125,12 +127,16 @@ impl<'a> Machine for Table<'a> {
         ))
     }
 
-    fn atom(&self, location: u32, k: u32, i: u32) -> Option<(u8, u8, u32)> {
+    fn atom(&self, location: u32, k: u32, i: u32) -> Option<Atom> {
         let edge = self.edge(location, k)?;
         if i >= edge.count() as u32 {
             return None;
         }
-        let atom = edge.atom(i as u8);
-        Some((atom.clock(), atom.comparison(), atom.constant()))
+        let record = edge.atom(i as u8);
+        Some(Atom {
+            clock: record.clock(),
+            comparison: Comparison::from(record.comparison()),
+            constant: record.constant(),
+        })
     }
 }
