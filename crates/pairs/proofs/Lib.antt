@@ -1,7 +1,4 @@
-pub mod EdgeReads
-pub mod Heads
-pub mod Joints
-pub mod Masks
+pub mod Chosen
 pub mod Pairs
-pub mod PartLaws
+pub mod EdgeReads
 pub mod StepLaws
