@@ -1,4 +1,7 @@
 pub mod Chosen
-pub mod Pairs
 pub mod EdgeReads
+pub mod Heads
+pub mod Joints
+pub mod Pairs
+pub mod PartLaws
 pub mod StepLaws
