@@ -1,5 +1,5 @@
 -- The automaton that a lawful file is.
-use Rattle.std.specs.Prelude.{ℕ, zero, suc, ◌+◌, ◌^◌, max, cond, List, [], ◌∷◌, map, length, fold, filter, ◌==◌, bit_or, nat_eq}
+use Rattle.std.specs.Prelude.{ℕ, zero, suc, ◌+◌, ◌^◌, max, cond, List, [], ◌∷◌, map, length, fold, filter, ◌==◌, bit_or, nat_eq, nat_lt}
 use Rattle.std.specs.List.{range_with_len}
 use Rattle.machines.specs.Automaton.{Atom, Edge, Automaton}
 use Rattle.models.specs.Format.{size_of, locations_of, clocks_of, from_of, to_of, label_of, resets_of, count_of, place_of_atom, clock_of, comparison_of, constant_of}
@@ -16,6 +16,10 @@ places_of bs = places_from 1024 bs 8
 -- the places of the edges that leave location l, in the order of the file
 abbrev pub places_at : List ℕ → ℕ → List ℕ
 places_at bs l = filter (λ at. nat_eq (from_of bs at) l) (places_of bs)
+
+-- how many edges leave a location below l
+unfoldable pub below : List ℕ → ℕ → ℕ
+below bs l = length (filter (λ at. nat_lt (from_of bs at) l) (places_of bs))
 
 abbrev pub atom_read : List ℕ → ℕ → Atom
 atom_read bs p = record { clock = clock_of bs p; comparison = comparison_of bs p; constant = constant_of bs p }

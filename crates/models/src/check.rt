@@ -1,11 +1,10 @@
 // Why a file is refused, or that it is not. Each test is that of the same record and number in specs/Format.antt.
 ghost use Rattle.std.specs.Prelude.{◌≡◌, ◌^◌, ◌≤◌, length, nat_lt, Ok, Err, MatchResult};
-ghost use Rattle.models.specs.Format.{clocks_of, resets_of, count_of, place_of_atom, framed, each_atom, head_has_shape, head_in_range, atom_has_shape, edge_has_shape, atom_in_range, edge_in_range, atom_is_known, edge_is_known, try, head_verdict, edge_verdict, edges_verdict, verdict};
+ghost use Rattle.models.specs.Format.{clocks_of, resets_of, count_of, place_of_atom, framed, each_atom, atom_has_shape, edge_has_shape, atom_in_range, edge_in_range, atom_is_known, edge_is_known, try, head_verdict, edge_verdict, edges_verdict, verdict};
 ghost use Rattle.models.specs.Model.{places_of};
 
-use crate::edges::Edges;
+use crate::edges::{Edges, Places};
 use crate::record::{AtomRecord, Record};
-use arrayvec::ArrayVec;
 use machines::refusal::Refusal;
 
 // Nothing where the test holds, and else the refusal.
@@ -42,19 +41,6 @@ impl Record<'_> {
         let at = self.at as usize;
         let size = self.size() as usize;
         at + 4 <= self.bytes.len() && 4 <= size && at + size <= self.bytes.len()
-    }
-
-    fn head_has_shape(&self) -> bool
-        requires { self.now.at ≡ 0 }
-        ensures { result ≡ head_has_shape self.now.bytes.now }
-    {
-        self.size() == 8 && self.head_spare() == 0
-    }
-
-    fn head_in_range(&self) -> bool
-        ensures { result ≡ head_in_range self.now.bytes.now }
-    {
-        1 <= self.locations() && self.locations() <= 256 && self.clocks() <= 4
     }
 
     fn edge_has_shape(&self) -> bool
@@ -110,17 +96,6 @@ impl Record<'_> {
         (0..count).all(|i| self.atom(i).is_known())
     }
 
-    #[tactic(auto, unfolding(crate::specs::Format::head_verdict))]
-    fn check_head(&self) -> Result<(), Refusal>
-        requires { self.now.at ≡ 0 }
-        ensures { result ≡ head_verdict self.now.bytes.now }
-    {
-        ensure(self.is_framed(), Refusal::Frame(0))?;
-        ensure(self.kind() == 1, Refusal::Kind(0))?;
-        ensure(self.head_has_shape(), Refusal::Shape(0))?;
-        ensure(self.head_in_range(), Refusal::Range(0))
-    }
-
     // Where `room` more edges may come, and the edge before it leaves `previous`.
     #[tactic(auto, unfolding(crate::specs::Format::edge_verdict))]
     fn check_edge(&self, room: usize, previous: u16) -> Result<(), Refusal>
@@ -136,12 +111,30 @@ impl Record<'_> {
     }
 }
 
+#[tactic(auto, unfolding(crate::specs::Format::head_verdict))]
+fn check_head(bytes: &[u8]) -> Result<(), Refusal>
+    ensures { result ≡ head_verdict bytes.now }
+{
+    let head = Record { bytes, at: 0 };
+    let locations = head.locations();
+    ensure(head.is_framed(), Refusal::Frame(0))?;
+    ensure(head.kind() == 1, Refusal::Kind(0))?;
+    ensure(
+        head.size() == 8 && head.head_spare() == 0,
+        Refusal::Shape(0),
+    )?;
+    ensure(
+        (1..=256).contains(&locations) && head.clocks() <= 4,
+        Refusal::Range(0),
+    )
+}
+
 // The places of the edges after the head.
-fn check_edges(bytes: &[u8]) -> Result<ArrayVec<u32, 1024>, Refusal>
+fn check_edges(bytes: &[u8]) -> Result<Places, Refusal>
     requires { (8 ≤ length bytes.now) × (length bytes.now ≤ 65536) }
     ensures { MatchResult result (λ places. (edges_verdict 1024 bytes.now 8 0 ≡ Ok tt) × (places.items ≡ places_of bytes.now)) (λ e. edges_verdict 1024 bytes.now 8 0 ≡ Err e) }
 {
-    let mut places = ArrayVec::new();
+    let mut places = Places::new();
     let mut at = 8;
     let mut previous = 0;
     while (at as usize) < bytes.len() {
@@ -161,7 +154,7 @@ pub(crate) fn check_file<'a>(bytes: &'a [u8]) -> Result<Edges<'a>, Refusal>
 {
     ensure(bytes.len() <= 65_536, Refusal::Frame(0))?;
     ensure(!bytes.is_empty(), Refusal::Kind(0))?;
-    Record { bytes, at: 0 }.check_head()?;
+    check_head(bytes)?;
     let places = check_edges(bytes)?;
     Ok(Edges::new(bytes, places))
 }

@@ -1,17 +1,19 @@
 // Where the edges of an accepted file stand, so that each question takes a few reads.
 ghost use Rattle.std.specs.Prelude.{◌≡◌, ℕ, ◌<◌, ◌≤◌, length, slice_index};
 ghost use Rattle.models.specs.Format.{locations_of, Accepted};
-ghost use Rattle.models.specs.Model.{places_of, places_at, widest, labels_of};
-ghost use Rattle.models.specs.Index.{below};
+ghost use Rattle.models.specs.Model.{places_of, places_at, below, widest, labels_of};
 
 use crate::record::Record;
 use arrayvec::ArrayVec;
 
+// The places of edges, of which no file has more.
+pub(crate) type Places = ArrayVec<u32, 1024>;
+
 #[derive(Drop)]
 pub(crate) struct Edges<'a> {
-    pub bytes: &'a [u8],
+    bytes: &'a [u8],
     // In the order of the file.
-    pub places: ArrayVec<u32, 1024>,
+    places: Places,
     // For each location, how many edges leave a lower one.
     first: [u16; 257],
     ghost accepted: { Accepted bytes.now },
@@ -29,7 +31,7 @@ fn count_below(bytes: &[u8], places: &[u32], location: usize) -> usize
 }
 
 impl<'a> Edges<'a> {
-    pub fn new(bytes: &'a [u8], places: ArrayVec<u32, 1024>) -> Edges<'a>
+    pub fn new(bytes: &'a [u8], places: Places) -> Edges<'a>
         requires { (Accepted bytes.now) × (places.items ≡ places_of bytes.now) }
         ensures { result.bytes.now ≡ bytes.now }
     {
@@ -42,6 +44,24 @@ impl<'a> Edges<'a> {
             places,
             first,
         }
+    }
+
+    // The record at a place of the file.
+    pub fn record(&self, at: u32) -> Record<'a>
+        ensures bytes { result.bytes ≡ self.now.bytes }
+        ensures at { result.at ≡ at }
+    {
+        Record {
+            bytes: self.bytes,
+            at,
+        }
+    }
+
+    // How many edges there are.
+    pub fn len(&self) -> u32
+        ensures { result ≡ length (places_of self.now.bytes.now) }
+    {
+        self.places.len() as u32
     }
 
     // The places of the edges that leave `location`.
@@ -67,11 +87,7 @@ impl<'a> Edges<'a> {
     pub fn width(&self) -> u32
         ensures { result ≡ widest self.now.bytes.now (locations_of self.now.bytes.now) }
     {
-        let locations = Record {
-            bytes: self.bytes,
-            at: 0,
-        }
-        .locations();
+        let locations = self.record(0).locations();
         (0..locations as u32)
             .map(|l| self.count(l))
             .max()
@@ -82,13 +98,8 @@ impl<'a> Edges<'a> {
     pub fn labels(&self) -> u32
         ensures { result ≡ labels_of self.now.bytes.now }
     {
-        self.places.iter().fold(0, |mask, at| {
-            mask | 1u32
-                << Record {
-                    bytes: self.bytes,
-                    at: *at,
-                }
-                .label()
-        })
+        self.places
+            .iter()
+            .fold(0, |mask, at| mask | 1u32 << self.record(*at).label())
     }
 }

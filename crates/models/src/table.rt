@@ -65,27 +65,15 @@ impl<'a> Table<'a> {
     pub fn edges(&self) -> u32
         ensures { result ≡ length (places_of self.now.edges.bytes.now) }
     {
-        self.edges.places.len() as u32
-    }
-
-    fn head(&self) -> Record<'a>
-        ensures { result.bytes.now ≡ self.now.edges.bytes.now }
-    {
-        Record {
-            bytes: self.edges.bytes,
-            at: 0,
-        }
+        self.edges.len()
     }
 
     // The k-th edge that leaves `location`.
     fn edge(&self, location: u32, k: u32) -> Option<Record<'a>>
         ensures { MatchOption result (slice_get (places_at self.now.edges.bytes.now location) k ≡ None) (λ edge. (edge.bytes.now ≡ self.now.edges.bytes.now) × (slice_get (places_at self.now.edges.bytes.now location) k ≡ Some edge.at)) }
     {
-        let at = *self.edges.leaving(location).get(k as usize)?;
-        Some(Record {
-            bytes: self.edges.bytes,
-            at,
-        })
+        let at = self.edges.leaving(location).get(k as usize)?;
+        Some(self.edges.record(*at))
     }
 }
 
@@ -95,11 +83,11 @@ impl<'a> Machine for Table<'a> {
     ghost lawful = { λ t. model_lawful t.edges.bytes.now t.edges.accepted };
 
     fn locations(&self) -> u32 {
-        self.head().locations() as u32
+        self.edges.record(0).locations() as u32
     }
 
     fn clocks(&self) -> u8 {
-        self.head().clocks()
+        self.edges.record(0).clocks()
     }
 
     fn width(&self) -> u32 {

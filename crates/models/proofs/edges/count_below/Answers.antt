@@ -2,7 +2,7 @@ use Rattle.std.proofs.Common.{◌≤◌, length, ltb, sym, ap, arith, rules, tes
 use Rattle.std.proofs.lemmas.List.Sorted.{IsPartitionedBy-ltb, IsPartitionPoint-from_clause}
 use Rattle.models.specs.Format.{from_of}
 use Rattle.models.specs.Model.{places_of}
-use Rattle.models.specs.Laws.Index.{from_non_decreasing, below_parts}
+use Rattle.models.specs.Laws.Counts.{from_non_decreasing, below_parts}
 use Rattle.models.specs.Laws.Places.{few_edges}
 use Rattle.models.proofs.edges.count_below.Goals as goal
 

@@ -15,7 +15,7 @@ use Rattle.models.proofs.edges.Edges.labels.Goals as goal
 pub fold-requires-clause-callable : goal.fold-requires-clause-callable
 fold-requires-clause-callable c =
     let t = c.args.self.now in
-    serves_by _ (λ xs q. q.0.0 ≡ t.bytes) (λ xs q x v j r. search rules) fronts _ c.iter.result _ refl
+    serves_by _ (λ xs q. q.0.0 ≡ c.args.self) (λ xs q x v j r. search rules) fronts _ c.iter.result _ refl
     (λ xs s q x u y h j.
     let turn = YieldsList-turn (YieldsList-from_slice t.places.items (search rules)) xs s y (Some x) u x refl h in
     let low = All-get_or (λ at. label_of t.bytes.now at ≤ 31) t.places.items (length xs) x.now turn.0 (subst (AllByRecursion (λ at. label_of t.bytes.now at ≤ 31)) (sym t.listed) (low_labels t.bytes.now t.accepted)) in

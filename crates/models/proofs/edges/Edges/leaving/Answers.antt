@@ -1,6 +1,6 @@
 use Rattle.std.proofs.Common.{◌+◌, length, sym, ap, ◌∙◌, arith}
 use Rattle.models.specs.Laws.Files.{accepted_parts}
-use Rattle.models.specs.Laws.Index.{below_few, below_more, places_between}
+use Rattle.models.specs.Laws.Counts.{below_few, below_more, places_between}
 use Rattle.models.specs.Laws.Models.{none_past}
 use Rattle.models.proofs.edges.Edges.leaving.Goals as goal
 

@@ -1,5 +1,5 @@
 use Rattle.std.proofs.Common.{◌≡◌, ℕ, ◌<◌, slice_index}
-use Rattle.models.specs.Index.{below}
+use Rattle.models.specs.Model.{below}
 use Rattle.models.proofs.edges.Edges.new.Given as goal
 
 abbrev pub invariant-loop-l : goal.invariant-loop-l

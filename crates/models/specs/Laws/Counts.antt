@@ -6,7 +6,7 @@ use Rattle.std.proofs.lemmas.Bool.Decides.{nat_tests}
 use Rattle.std.specs.List.Sorted.{IsNonDecreasingBy, IsPartitionPoint}
 use Rattle.models.specs.Format.{from_of, Accepted}
 use Rattle.models.specs.Model.{places_of, places_at}
-use Rattle.models.specs.Index.{below}
+use Rattle.models.specs.Model.{below}
 use Rattle.models.specs.Laws.Places.{places_sorted}
 use Rattle.models.specs.Laws.Sorted.{few_below, more_below, non_decreasing, count_is, together}
 
