@@ -1,6 +1,6 @@
 // What replaying a word answers.
 use crate::files::{add_edge, add_guarded, fan, head, late_fan};
-use machines::refusal::Refusal;
+use machines::machine::Machine;
 use models::table::Table;
 use pairs::pair::Pair;
 use std::process::Abort;
@@ -8,13 +8,11 @@ use std::test::Fail;
 use words::replay::replay;
 use words::word::Letter;
 
-// The number and the place of a refusal, or 0 and 1 for a word and 0 for none.
-fn numbers(answer: Result<bool, Refusal>) -> (u8, usize) {
-    match answer {
-        Ok(true) => (0, 1),
-        Ok(false) => (0, 0),
-        Err(why) => (why.number(), why.place()),
-    }
+// What replaying answers, with a refusal as its number and its place.
+type Answer = Result<bool, (u8, usize)>;
+
+fn answer<M: Machine>(m: &M, grid: u32, word: &[Letter]) -> Answer {
+    replay(m, grid, word).map_err(|why| (why.number(), why.place()))
 }
 
 const STEP: Letter = Letter { delay: 1, label: 0 };
@@ -24,64 +22,64 @@ const LEAD: Letter = Letter { delay: 1, label: 1 };
 const LOST: Letter = Letter { delay: 1, label: 2 };
 
 // Replays the word at grid 1 on the machine of the file.
-fn check_crowd(rt: &impl Abort, file: &[u8], word: &[Letter], expected: (u8, usize)) {
+fn check_crowd(rt: &impl Abort, file: &[u8], word: &[Letter], expected: Answer) {
     let mut table = Table::bare();
     assert!(rt; table.load(file).is_ok());
-    assert_eq!(rt; numbers(replay(&table, 1, word)), expected);
+    assert_eq!(rt; answer(&table, 1, word), expected);
 }
 
 #[test]
 fn crowds(rt: HostRuntime) -> Result<(), Fail> {
     let heap = rt.alloc();
-    let most = fan(heap, 64).ok_or("memory")?;
-    let more = fan(heap, 65).ok_or("memory")?;
-    check_crowd(&rt, most.as_slice(), &[STEP], (0, 1));
-    check_crowd(&rt, more.as_slice(), &[STEP], (24, 0));
-    check_crowd(&rt, most.as_slice(), &[STEP, LOST], (0, 0));
+    let most = fan(heap, 64)?;
+    let more = fan(heap, 65)?;
+    check_crowd(&rt, &most, &[STEP], Ok(true));
+    check_crowd(&rt, &more, &[STEP], Err((24, 0)));
+    check_crowd(&rt, &most, &[STEP, LOST], Ok(false));
     // Too many, and none later.
-    check_crowd(&rt, more.as_slice(), &[STEP, LOST], (24, 0));
-    let late = late_fan(heap, 64).ok_or("memory")?;
-    let later = late_fan(heap, 65).ok_or("memory")?;
-    check_crowd(&rt, late.as_slice(), &[LEAD, STEP], (0, 1));
-    check_crowd(&rt, later.as_slice(), &[LEAD, STEP], (24, 1));
-    check_crowd(&rt, later.as_slice(), &[LEAD, STEP, LOST], (24, 1));
-    check_crowd(&rt, later.as_slice(), &[LEAD], (0, 1));
-    check_crowd(&rt, later.as_slice(), &[], (0, 1));
+    check_crowd(&rt, &more, &[STEP, LOST], Err((24, 0)));
+    let late = late_fan(heap, 64)?;
+    let later = late_fan(heap, 65)?;
+    check_crowd(&rt, &late, &[LEAD, STEP], Ok(true));
+    check_crowd(&rt, &later, &[LEAD, STEP], Err((24, 1)));
+    check_crowd(&rt, &later, &[LEAD, STEP, LOST], Err((24, 1)));
+    check_crowd(&rt, &later, &[LEAD], Ok(true));
+    check_crowd(&rt, &later, &[], Ok(true));
     Ok(())
 }
 
 // Many edges to one state make no crowd.
 #[test]
 fn one_state(rt: HostRuntime) -> Result<(), Fail> {
-    let mut file = head(rt.alloc(), 1, 0).ok_or("memory")?;
+    let mut file = head(rt.alloc(), 1, 0)?;
     for _ in 0..200 {
-        add_edge(&mut file, 0, 0, 0, 0).ok_or("memory")?;
+        add_edge(&mut file, 0, 0, 0, 0)?;
     }
-    check_crowd(&rt, file.as_slice(), &[STEP, STEP], (0, 1));
+    check_crowd(&rt, &file, &[STEP, STEP], Ok(true));
     Ok(())
 }
 
 // The longest word and delay, and one more.
 #[test]
 fn ranges(rt: HostRuntime) -> Result<(), Fail> {
-    let mut file = head(rt.alloc(), 1, 1).ok_or("memory")?;
-    add_edge(&mut file, 0, 0, 31, 0).ok_or("memory")?;
+    let mut file = head(rt.alloc(), 1, 1)?;
+    add_edge(&mut file, 0, 0, 31, 0)?;
     let longest = Letter {
         delay: 1_000_000_000,
         label: 31,
     };
-    check_crowd(&rt, file.as_slice(), &[longest; 256], (0, 1));
-    check_crowd(&rt, file.as_slice(), &[longest; 257], (13, 0));
+    check_crowd(&rt, &file, &[longest; 256], Ok(true));
+    check_crowd(&rt, &file, &[longest; 257], Err((13, 0)));
     let later = Letter {
         delay: 1_000_000_001,
         label: 31,
     };
-    check_crowd(&rt, file.as_slice(), &[longest, later], (13, 0));
+    check_crowd(&rt, &file, &[longest, later], Err((13, 0)));
     let higher = Letter {
         delay: 0,
         label: 32,
     };
-    check_crowd(&rt, file.as_slice(), &[higher], (13, 0));
+    check_crowd(&rt, &file, &[higher], Err((13, 0)));
     Ok(())
 }
 
@@ -90,11 +88,7 @@ fn check_edge(rt: &impl Abort, file: &[u8], grid: u32, delay: u32, holds: bool, 
     let mut table = Table::bare();
     assert!(rt; table.load(file).is_ok());
     let word = [Letter { delay, label: 0 }];
-    assert_eq!(rt;
-        numbers(replay(&table, grid, &word)),
-        (0, holds as usize),
-        "{place}"
-    );
+    assert_eq!(rt; answer(&table, grid, &word), Ok(holds), "{place}");
 }
 
 // The delays just below, at and just above three ticks, for one comparison.
@@ -121,10 +115,10 @@ fn comparisons(rt: HostRuntime) -> Result<(), Fail> {
         (2, false, false, true),
         (3, false, true, true),
     ] {
-        let mut file = head(rt.alloc(), 1, 1).ok_or("memory")?;
-        add_guarded(&mut file, 0, 0, comparison, 3).ok_or("memory")?;
+        let mut file = head(rt.alloc(), 1, 1)?;
+        add_guarded(&mut file, 0, 0, comparison, 3)?;
         for grid in [1, 2, 64] {
-            check_comparison(&rt, file.as_slice(), grid, below, at, above)?;
+            check_comparison(&rt, &file, grid, below, at, above)?;
         }
     }
     Ok(())
@@ -136,28 +130,24 @@ fn check_pair(rt: &impl Abort, left: &[u8], right: &[u8], first: Letter, second:
     let mut other = Table::bare();
     assert!(rt; one.load(left).is_ok());
     assert!(rt; other.load(right).is_ok());
-    let own = numbers(replay(&one, 1, &[first, second]));
-    let others = numbers(replay(&other, 1, &[first, second]));
-    let both = own == (0, 1) && others == (0, 1);
+    let word = [first, second];
+    let both = answer(&one, 1, &word) == Ok(true) && answer(&other, 1, &word) == Ok(true);
     let pair = Pair::new(one, other);
-    assert_eq!(rt;
-        numbers(replay(&pair, 1, &[first, second])),
-        (0, both as usize)
-    );
+    assert_eq!(rt; answer(&pair, 1, &word), Ok(both));
 }
 
 // Both tables have label 0 alone, so a word is one of the pair exactly where it is one of both.
 #[test]
 fn pairs(rt: HostRuntime) -> Result<(), Fail> {
-    let mut left = head(rt.alloc(), 1, 1).ok_or("memory")?;
-    add_guarded(&mut left, 0, 1, 1, 3).ok_or("memory")?;
-    let mut right = head(rt.alloc(), 1, 1).ok_or("memory")?;
-    add_guarded(&mut right, 0, 0, 3, 2).ok_or("memory")?;
+    let mut left = head(rt.alloc(), 1, 1)?;
+    add_guarded(&mut left, 0, 1, 1, 3)?;
+    let mut right = head(rt.alloc(), 1, 1)?;
+    add_guarded(&mut right, 0, 0, 3, 2)?;
     for a in 0..6 {
         for b in 0..6 {
             let first = Letter { delay: a, label: 0 };
             let second = Letter { delay: b, label: 0 };
-            check_pair(&rt, left.as_slice(), right.as_slice(), first, second);
+            check_pair(&rt, &left, &right, first, second);
         }
     }
     Ok(())
@@ -178,20 +168,17 @@ fn check_own(rt: &impl Abort, left: &[u8], right: &[u8], first: u32, second: u32
         delay: second,
         label: 0,
     };
-    assert_eq!(rt;
-        numbers(replay(&pair, 1, &[moved, joint])),
-        (0, is as usize)
-    );
+    assert_eq!(rt; answer(&pair, 1, &[moved, joint]), Ok(is));
 }
 
 // Label 1 moves left alone, while time passes on the right too.
 #[test]
 fn own_labels(rt: HostRuntime) -> Result<(), Fail> {
-    let mut left = head(rt.alloc(), 1, 1).ok_or("memory")?;
-    add_guarded(&mut left, 0, 0, 1, 9).ok_or("memory")?;
-    add_guarded(&mut left, 1, 1, 1, 3).ok_or("memory")?;
-    let mut right = head(rt.alloc(), 1, 1).ok_or("memory")?;
-    add_guarded(&mut right, 0, 0, 3, 4).ok_or("memory")?;
+    let mut left = head(rt.alloc(), 1, 1)?;
+    add_guarded(&mut left, 0, 0, 1, 9)?;
+    add_guarded(&mut left, 1, 1, 1, 3)?;
+    let mut right = head(rt.alloc(), 1, 1)?;
+    add_guarded(&mut right, 0, 0, 3, 4)?;
     for (first, second, is) in [
         (3, 1, true),
         (3, 0, false),
@@ -200,7 +187,7 @@ fn own_labels(rt: HostRuntime) -> Result<(), Fail> {
         (3, 9, true),
         (3, 10, false),
     ] {
-        check_own(&rt, left.as_slice(), right.as_slice(), first, second, is);
+        check_own(&rt, &left, &right, first, second, is);
     }
     Ok(())
 }
