@@ -1,5 +1,5 @@
 -- Texts that are decoded, and those that are not.
-use Rattle.std.proofs.Common.{◌≡◌, ℕ, suc, ◌+◌, ◌*◌, ◌%◌, ◌<◌, ◌≤◌, true, List, [], ◌∷◌, length, nat_lt, Some, Ok, Err, is_some, ◌⊎◌, inl, inr, refl, ap, ◌∙◌, sym, arith}
+use Rattle.std.proofs.Common.{◌≡◌, ℕ, ◌+◌, ◌*◌, ◌<◌, ◌≤◌, true, List, [], ◌∷◌, nat_lt, Some, Ok, Err, ◌⊎◌, inl, inr, refl, ap, ◌∙◌, sym, arith}
 use Rattle.std.proofs.lemmas.Bool.{cases_lt, ltb-true, agree_below_at}
 use Rattle.std.proofs.lemmas.List.Elements.{All-head, All-tail}
 use Rattle.std.specs.Char.{digit_value}
@@ -24,12 +24,12 @@ past_z c h = grind arith
 tests_agree : (c : ℕ) → is_hex_digit c ≡ nat_lt (digit_value c) 16
 tests_agree c = elim (cases_lt c 123) [ inl below ↦ agree_below_at is_hex_digit (λ d. nat_lt (digit_value d) 16) 123 c refl below | inr past ↦ past_z c past ]
 
-digit_below : (c : ℕ) → is_hex_digit c ≡ true → digit_value c < 16
-digit_below c h = ltb-true (digit_value c) 16 (sym (tests_agree c) ∙ h)
+hex_digit_below : (c : ℕ) → is_hex_digit c ≡ true → digit_value c < 16
+hex_digit_below c h = ltb-true (digit_value c) 16 (sym (tests_agree c) ∙ h)
 
 all_digits : (ds : List ℕ) → AllPass is_hex_digit ds → AllDigits 16 ds
 all_digits [] all = tt
-all_digits (d ∷ ds) all = (digit_below d (All-head (λ c. is_hex_digit c ≡ true) d ds all), all_digits ds (All-tail (λ c. is_hex_digit c ≡ true) d ds all))
+all_digits (d ∷ ds) all = (hex_digit_below d (All-head (λ c. is_hex_digit c ≡ true) d ds all), all_digits ds (All-tail (λ c. is_hex_digit c ≡ true) d ds all))
 
 pairs_read : (i : ℕ) (ds : List ℕ) → IsHex ds → decode_pairs i ds ≡ Ok (unhexed ds)
 unfolding decode_pairs

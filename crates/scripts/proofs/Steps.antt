@@ -1,5 +1,5 @@
 -- The steps of a timed word, one by one.
-use Rattle.std.proofs.Common.{◌≡◌, ℕ, ◌<◌, List, [], ◌∷◌, ◌++◌, map, length, get_or, drop, Option, Some, None, Ok, Err, ok_or, MatchOption, Bor, refl, ap, sym, arith}
+use Rattle.std.proofs.Common.{◌≡◌, ℕ, List, [], ◌∷◌, ◌++◌, Option, Some, None, Ok, Err, ok_or, MatchOption}
 use Rattle.words.specs.declared.word.Letter.{Letter}
 use Rattle.scripts.specs.declared.fault.Fault.{Fault}
 use Rattle.scripts.specs.declared.fault.Fault.TheVariants.{Step}

@@ -1,5 +1,5 @@
 -- The words of a text: the first, and those after it.
-use Rattle.std.proofs.Common.{◌≡◌, ℕ, zero, suc, ◌+◌, ◌<◌, ◌≤◌, Bool, true, false, not, ◌==◌, List, [], ◌∷◌, length, take, drop, filter, Option, Some, None, MatchOption, Bor, sym, refl, ap, ◌∙◌, arith, one-add, ne_eqb}
+use Rattle.std.proofs.Common.{◌≡◌, ℕ, ◌+◌, ◌<◌, Bool, true, false, not, ◌==◌, List, [], ◌∷◌, length, filter, Option, Some, None, MatchOption, Bor, sym, refl, ap, ◌∙◌, arith, one-add, ne_eqb}
 use Rattle.std.proofs.lemmas.Bool.{cond-true}
 use Rattle.std.proofs.lemmas.List.Folds.{length-prefix_len}
 use Rattle.std.proofs.lemmas.List.{nil_from_length}

@@ -42,10 +42,7 @@ pub fn next_word(text: &[u8]) -> Option<(&[u8], &[u8])>
 {
     let start = text.iter().position(|b| !is_blank(*b))?;
     let rest = &text[start..];
-    let end = rest
-        .iter()
-        .position(|b| is_blank(*b))
-        .unwrap_or(rest.len());
+    let end = rest.iter().position(|b| is_blank(*b)).unwrap_or(rest.len());
     Some(rest.split_at(end))
 }
 

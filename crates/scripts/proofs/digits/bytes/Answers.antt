@@ -1,4 +1,3 @@
-use Rattle.std.proofs.Common.{ap}
 use Rattle.std.proofs.lemmas.Result.{err_from_is_err_and}
 use Rattle.scripts.proofs.Decodes.{read_is_hex, unread}
 use Rattle.scripts.proofs.digits.bytes.Goals as goal

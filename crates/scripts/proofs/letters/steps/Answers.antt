@@ -1,7 +1,6 @@
-use Rattle.std.proofs.Common.{◌≡◌, ◌+◌, [], ◌∷◌, ◌++◌, map, get_or, take, drop, vec_items, sym, refl, ap, ◌∙◌, subst, inr, arith, rules}
+use Rattle.std.proofs.Common.{[], map, take, vec_items, sym, ap, ◌∙◌, inr, arith}
 use Rattle.std.proofs.lemmas.List.{length-map, map_more, drop-map, get_or-map}
 use Rattle.std.proofs.lemmas.Result.{err_from_is_err_and}
-use Rattle.scripts.specs.Letters.{LetterIs, LettersAre}
 use Rattle.scripts.proofs.Steps.{letters_more, some_answered, none_answered}
 use Rattle.scripts.proofs.letters.steps.Goals as goal
 
@@ -16,7 +15,7 @@ returns-in_err-ok_or c =
     rw (p.1, p.2, same) (inr (told.0, (i, omega (arith, length-map ws (λ x. x.now), c.loop-word-test.true), rw (get_or-map (λ x. x.now) ws i (record { ref_ptr = (0, 0); now = [] }) [] within) told.1)))
 
 pub loop-word-preserved : goal.loop-word-preserved
-loop-word-preserved c = 
+loop-word-preserved c =
     let ws = c.unwrap_or_default-word-items.result.now in
     let i = c.loop-word.word-index in
     let one = map_more (λ x. x.now) ws i (record { ref_ptr = (0, 0); now = [] }) c.loop-word-test.true in

@@ -4,4 +4,8 @@ use Rattle.scripts.proofs.number.digits.Given as goal
 
 -- the digits so far, and their number
 abbrev pub invariant-loop-b : goal.invariant-loop-b
-invariant-loop-b l = (l.sum < 2 ^ 32) × AllDigits l.radix (take l.b-index l.text) × (l.sum ≡ digits_value l.radix (take l.b-index l.text))
+invariant-loop-b l = record {
+  small : l.sum < 2 ^ 32;
+  digits : AllDigits l.radix (take l.b-index l.text);
+  number : l.sum ≡ digits_value l.radix (take l.b-index l.text);
+}

@@ -1,4 +1,4 @@
-use Rattle.std.proofs.Common.{rules, arith, length-take, length-drop}
+use Rattle.std.proofs.Common.{rules, arith}
 use Rattle.scripts.proofs.Spellings.{no_number}
 use Rattle.scripts.proofs.statement.parse.Goals as goal
 

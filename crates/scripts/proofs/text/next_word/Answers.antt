@@ -1,9 +1,9 @@
-use Rattle.std.proofs.Common.{◌≡◌, ℕ, ◌+◌, ◌-◌, not, length, drop, take, Some, None, unwrap_or, ap, sym, refl, ◌∙◌, arith, rules, tests, length-drop, MatchOption}
+use Rattle.std.proofs.Common.{◌≡◌, ℕ, ◌-◌, length, drop, take, Some, unwrap_or, ap, sym, ◌∙◌, arith, rules, tests, length-drop}
 use Rattle.std.proofs.lemmas.List.{take_rest}
 use Rattle.std.proofs.lemmas.Iterator.{YieldsList-from_slice}
 use Rattle.std.proofs.lemmas.Iterator.Search.{position_from_yields_List}
 use Rattle.std.specs.List.{position_or_len}
-use Rattle.scripts.specs.Lines.{blank, in_word, front, past, NextWord}
+use Rattle.scripts.specs.Lines.{blank, in_word, front, past}
 use Rattle.scripts.proofs.Places.{place_some, place_none, place_or_length}
 use Rattle.scripts.proofs.Words.{blanks_length, words_next}
 use Rattle.scripts.proofs.text.next_word.Goals as goal

@@ -1,8 +1,8 @@
-use Rattle.std.proofs.Common.{◌≡◌, ◌+◌, ◌==◌, length, drop, take, ap, sym, ◌∙◌, refl, arith, rules, tests, length-drop}
+use Rattle.std.proofs.Common.{◌+◌, ◌==◌, sym, ◌∙◌, refl, arith, rules, tests, length-drop}
 use Rattle.std.proofs.lemmas.List.{drop-drop, take_rest}
 use Rattle.std.proofs.lemmas.Iterator.{YieldsList-from_slice}
 use Rattle.std.proofs.lemmas.Iterator.Search.{position_from_yields_List}
-use Rattle.std.specs.List.{position, position_or_len}
+use Rattle.std.specs.List.{position_or_len}
 use Rattle.scripts.proofs.Places.{place_some, place_none}
 use Rattle.scripts.proofs.text.split_once.Goals as goal
 
