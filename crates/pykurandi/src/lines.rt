@@ -10,17 +10,17 @@ use pairs::pair::Pair;
 use scripts::fault::Fault;
 use scripts::letters::steps;
 use scripts::number::label_of;
-use scripts::source::{Source, source_of};
-use scripts::statement::{Statement, parse};
-use scripts::{hex, text};
+use scripts::source::Source;
+use scripts::statement::{DeadlineNumbers, Statement, parse};
+use scripts::{digits, text};
 use std::str::from_utf8;
 use std::{fs, io};
 
 // The bytes that a table is loaded from.
 fn read_source(rt: &HostRuntime, word: &[u8]) -> Result<Vec<u8>, Fault> {
-    let path = match source_of(word) {
+    let path = match Source::from(word) {
         Source::Empty => return Ok(Vec::new(rt.alloc())),
-        Source::Digits(digits) => return hex::bytes(rt.alloc(), digits),
+        Source::Digits(word) => return digits::bytes(rt.alloc(), word),
         Source::File(path) => path,
     };
     let Ok(path) = from_utf8(path) else {
@@ -62,11 +62,11 @@ fn obey_deadline(
     rt: &HostRuntime,
     session: &mut Session,
     name: &[u8],
-    numbers: (u32, u32, u32, u32),
+    numbers: DeadlineNumbers,
 ) -> Result<(), Trouble> {
     let heap = rt.alloc();
     let text = String::from_utf8_lossy(heap, name)?;
-    let (a, b, m, c) = numbers;
+    let DeadlineNumbers { a, b, m, c } = numbers;
     let a = label_of(a);
     let b = label_of(b);
     match Deadline::new(a, b, m, c) {
@@ -166,7 +166,7 @@ pub fn obey(rt: &HostRuntime, session: &mut Session, line: &[u8]) -> Result<(), 
     match parse(words.as_slice())? {
         Statement::Blank => Ok(()),
         Statement::Table { name, source } => obey_table(rt, session, name, source),
-        Statement::Deadline { name, a, b, m, c } => obey_deadline(rt, session, name, (a, b, m, c)),
+        Statement::Deadline { name, numbers } => obey_deadline(rt, session, name, numbers),
         Statement::Pair { name, left, right } => obey_pair(rt, session, name, left, right),
         Statement::Describe { name } => obey_describe(rt, session, name),
         Statement::Replay { name, grid } => {
