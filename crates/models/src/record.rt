@@ -1,9 +1,12 @@
 // The records of a file and the atoms of an edge, by the names of their fields.
 ghost use Rattle.std.specs.Prelude.{◌≡◌, ◌+◌};
+ghost use Rattle.machines.specs.Comparisons.{coded};
 ghost use Rattle.models.specs.Numbers.{byte, two_bytes};
 ghost use Rattle.models.specs.Format.{size_of, kind_of, locations_of, clocks_of, from_of, to_of, label_of, resets_of, count_of, place_of_atom, clock_of, comparison_of, constant_of};
 
 use crate::numbers::{byte_at, u16_at, u32_at};
+use machines::atom::Atom;
+use machines::comparison::Comparison;
 
 // The record at a place of the file.
 #[derive(Clone, Copy)]
@@ -100,6 +103,18 @@ impl<'a> Record<'a> {
         self.byte(11)
     }
 
+    // The label, target, resets and number of atoms.
+    pub fn edge_head(&self) -> (u8, u32, u8, u32)
+        ensures { result ≡ (label_of self.now.bytes.now self.now.at, to_of self.now.bytes.now self.now.at, resets_of self.now.bytes.now self.now.at, count_of self.now.bytes.now self.now.at) }
+    {
+        (
+            self.label(),
+            self.to() as u32,
+            self.resets(),
+            self.count() as u32,
+        )
+    }
+
     pub fn atom(&self, i: u8) -> AtomRecord<'a>
         ensures edge { result.edge ≡ self.now }
         ensures number { result.i ≡ i }
@@ -137,5 +152,17 @@ impl AtomRecord<'_> {
         ensures { result ≡ constant_of self.now.edge.bytes.now (place_of_atom self.now.edge.at self.now.i) }
     {
         u32_at(self.edge.bytes, self.place(4))
+    }
+
+    pub fn read(&self) -> Atom
+        ensures clock { result.clock ≡ clock_of self.now.edge.bytes.now (place_of_atom self.now.edge.at self.now.i) }
+        ensures comparison { result.comparison ≡ coded (comparison_of self.now.edge.bytes.now (place_of_atom self.now.edge.at self.now.i)) }
+        ensures constant { result.constant ≡ constant_of self.now.edge.bytes.now (place_of_atom self.now.edge.at self.now.i) }
+    {
+        Atom {
+            clock: self.clock(),
+            comparison: Comparison::from(self.comparison()),
+            constant: self.constant(),
+        }
     }
 }

@@ -10,7 +10,6 @@ use crate::check::check_file;
 use crate::edges::Edges;
 use crate::record::Record;
 use machines::atom::Atom;
-use machines::comparison::Comparison;
 use machines::machine::Machine;
 use machines::refusal::Refusal;
 
@@ -107,12 +106,7 @@ impl<'a> Machine for Table<'a> {
 
     fn edge_head(&self, location: u32, k: u32) -> Option<(u8, u32, u8, u32)> {
         let edge = self.edge(location, k)?;
-        Some((
-            edge.label(),
-            edge.to() as u32,
-            edge.resets(),
-            edge.count() as u32,
-        ))
+        Some(edge.edge_head())
     }
 
     fn atom(&self, location: u32, k: u32, i: u32) -> Option<Atom> {
@@ -120,11 +114,6 @@ impl<'a> Machine for Table<'a> {
         if i >= edge.count() as u32 {
             return None;
         }
-        let record = edge.atom(i as u8);
-        Some(Atom {
-            clock: record.clock(),
-            comparison: Comparison::from(record.comparison()),
-            constant: record.constant(),
-        })
+        Some(edge.atom(i as u8).read())
     }
 }

@@ -11,4 +11,4 @@ pub returns : goal.returns
 returns c =
     let t = c.args.self.now.edges in
     let answer = head_answer t.bytes.now t.accepted c.args.location c.args.k c.in_ok-edge.edge.at (sym c.in_ok-edge.ensures.1) in
-    rw (c.label.ensures, c.to.ensures, c.resets.ensures, c.count.ensures, c.in_ok-edge.ensures.0) answer
+    rw (c.edge_head.ensures, c.in_ok-edge.ensures.0) answer
