@@ -8,6 +8,7 @@ ghost use Rattle.models.specs.Laws.Models.{model_lawful};
 
 use crate::check::check_file;
 use crate::edges::Edges;
+use crate::head;
 use crate::record::Record;
 use machines::atom::Atom;
 use machines::machine::Machine;
@@ -82,11 +83,11 @@ impl<'a> Machine for Table<'a> {
     ghost lawful = { λ t. model_lawful t.edges.bytes.now t.edges.accepted };
 
     fn locations(&self) -> u32 {
-        self.edges.record(0).locations() as u32
+        head::locations(self.edges.bytes) as u32
     }
 
     fn clocks(&self) -> u8 {
-        self.edges.record(0).clocks()
+        head::clocks(self.edges.bytes)
     }
 
     fn width(&self) -> u32 {

@@ -21,4 +21,4 @@ returns c =
     let t = c.args.self.now.edges in
     let answer = atom_answer t.bytes.now t.accepted c.args.location c.args.k c.in_ok-edge.edge.at (sym c.in_ok-edge.ensures.1) c.args.i
     (omega (arith, c.count.ensures, ap (λ bs. count_of bs c.in_ok-edge.edge.at) c.in_ok-edge.ensures.0)) in
-    rw (c.read.ensures.clock, c.read.ensures.comparison, c.read.ensures.constant, c.atom.ensures.edge, c.atom.ensures.number, c.in_ok-edge.ensures.0) answer
+    rw (c.read.ensures.clock, c.read.ensures.comparison, c.read.ensures.constant, c.atom.ensures.at, c.atom.ensures.bytes, c.in_ok-edge.ensures.0) answer
