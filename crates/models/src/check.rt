@@ -150,7 +150,7 @@ fn check_edges(bytes: &[u8]) -> Result<Places, Refusal>
 }
 
 // The whole file.
-#[tactic(auto, unfolding(crate::specs::Format::verdict))]
+#[tactic(auto, using(crate::specs::Laws::Files::head_from), unfolding(crate::specs::Format::verdict))]
 pub(crate) fn check_file<'a>(bytes: &'a [u8]) -> Result<Edges<'a>, Refusal>
     ensures { MatchResult result (λ edges. edges.bytes.now ≡ bytes.now) (λ e. verdict bytes.now ≡ Err e) }
 {

@@ -78,6 +78,7 @@ impl<'a> Edges<'a> {
     }
 
     // How many edges leave `location`.
+    #[tactic(auto, using(crate::specs::Laws::Models::few_leaving))]
     pub fn count(&self, location: u32) -> u32
         ensures { result ≡ length (places_at self.now.bytes.now location) }
     {
