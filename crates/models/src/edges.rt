@@ -66,6 +66,7 @@ impl<'a> Edges<'a> {
     }
 
     // The places of the edges that leave `location`.
+    #[tactic(auto, using(crate::specs::Laws::Counts::of_leaving))]
     pub fn leaving(&self, location: u32) -> &[u32]
         ensures { result.now ≡ places_at self.now.bytes.now location }
     {

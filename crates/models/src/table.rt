@@ -78,6 +78,7 @@ impl<'a> Table<'a> {
     }
 }
 
+#[tactic(auto, using(crate::specs::Laws::Questions::answers))]
 impl<'a> Machine for Table<'a> {
     ghost meaning = { λ t. model t.edges.bytes.now };
 
@@ -99,7 +100,6 @@ impl<'a> Machine for Table<'a> {
         self.labels
     }
 
-    #[tactic(auto, using(crate::specs::Laws::Questions::count_answer, crate::specs::Laws::Questions::no_count_answer))]
     fn edge_count(&self, location: u32) -> Option<u32> {
         if location >= self.locations() {
             return None;
@@ -107,13 +107,11 @@ impl<'a> Machine for Table<'a> {
         Some(self.edges.count(location))
     }
 
-    #[tactic(auto, using(crate::specs::Laws::Questions::head_answer, crate::specs::Laws::Questions::no_edge_head))]
     fn edge_head(&self, location: u32, k: u32) -> Option<(u8, u32, u8, u32)> {
         let edge = self.edge(location, k)?;
         Some(edge.edge_head())
     }
 
-    #[tactic(auto, using(crate::specs::Laws::Questions::atom_answer, crate::specs::Laws::Questions::no_atom_answer, crate::specs::Laws::Questions::no_edge_atom))]
     fn atom(&self, location: u32, k: u32, i: u32) -> Option<Atom> {
         let edge = self.edge(location, k)?;
         if i >= edge.count() as u32 {
