@@ -9,14 +9,15 @@ use std::process::Abort;
 use std::test::Fail;
 
 // The number and the place of a refusal, or 0 and the number of edges.
-fn numbers(answer: Result<(), Refusal>, edges: u32) -> (u8, usize) {
-    match answer {
-        Ok(()) => (0, edges as usize),
+fn numbers(edges: Result<u32, Refusal>) -> (u8, usize) {
+    match edges {
+        Ok(edges) => (0, edges as usize),
         Err(why) => (why.number(), why.place()),
     }
 }
 
-// Loads the good file and then the other, the row's, which gives these numbers. Where it is refused the table answers as before.
+// Loads the good file and then the other, the row's, which gives these numbers, also where it is read alone. Where it is refused the table
+// answers as before.
 fn check_files<'x>(
     rt: &impl Abort,
     good: &'x [u8],
@@ -27,7 +28,9 @@ fn check_files<'x>(
     let mut table = Table::bare();
     let _ = table.load(good);
     let answer = table.load(file);
-    assert_eq!(rt; numbers(answer, table.edges()), expected, "{row}");
+    let edges = Table::read(file).map(|t| t.edges());
+    assert_eq!(rt; numbers(answer.map(|()| table.edges())), expected, "{row}");
+    assert_eq!(rt; numbers(edges), expected, "{row}");
     if answer.is_err() {
         check_table(rt, &table, &SEVERAL, row);
     }

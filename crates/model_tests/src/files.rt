@@ -1,5 +1,6 @@
 // Accepted files, and what is to be read from them: each edge and atom, and nothing past the end in any argument.
 use crate::model::Model;
+use machines::comparison::Comparison::{Above, AtLeast, AtMost, Below};
 
 // Three edges leave location 0, none leaves 1, and two leave 2.
 pub static SEVERAL: Model = Model {
@@ -42,19 +43,19 @@ pub static SEVERAL: Model = Model {
     ],
     atoms: &[
         (0, 0, 0, None),
-        (0, 1, 0, Some((0, 1, 10))),
+        (0, 1, 0, Some((0, AtMost, 10))),
         (0, 1, 1, None),
-        (0, 2, 0, Some((0, 0, 0))),
-        (0, 2, 1, Some((1, 3, 100_000))),
-        (0, 2, 2, Some((1, 2, 1_000))),
-        (0, 2, 3, Some((0, 1, 1))),
+        (0, 2, 0, Some((0, Below, 0))),
+        (0, 2, 1, Some((1, AtLeast, 100_000))),
+        (0, 2, 2, Some((1, Above, 1_000))),
+        (0, 2, 3, Some((0, AtMost, 1))),
         (0, 2, 4, None),
         (0, 2, u32::MAX, None),
         (0, 3, 0, None),
         (0, u32::MAX, 0, None),
         (1, 0, 0, None),
         (2, 0, 0, None),
-        (2, 1, 0, Some((1, 0, 65_536))),
+        (2, 1, 0, Some((1, Below, 65_536))),
         (2, 1, 1, None),
         (2, 2, 0, None),
         (3, 0, 0, None),
@@ -82,9 +83,9 @@ pub static LARGEST: Model = Model {
         (256, 0, None),
     ],
     atoms: &[
-        (255, 0, 0, Some((0, 0, 1))),
-        (255, 1_023, 2, Some((2, 2, 3))),
-        (255, 1_023, 3, Some((3, 3, 100_000))),
+        (255, 0, 0, Some((0, Below, 1))),
+        (255, 1_023, 2, Some((2, Above, 3))),
+        (255, 1_023, 3, Some((3, AtLeast, 100_000))),
         (255, 1_023, 4, None),
         (255, 1_024, 0, None),
         (256, 0, 0, None),

@@ -1,5 +1,6 @@
 // What is to be read from a file.
 use crate::bytes::build;
+use machines::comparison::Comparison;
 use machines::machine::Machine;
 use models::table::Table;
 use std::alloc::Global;
@@ -13,7 +14,7 @@ pub type Count = (u32, Option<u32>);
 pub type Head = (u32, u32, Option<(u8, u32, u8, u32)>);
 
 // A location, an edge's number there, an atom's number, and its clock, comparison and constant.
-pub type Atom = (u32, u32, u32, Option<(u8, u8, u32)>);
+pub type Condition = (u32, u32, u32, Option<(u8, Comparison, u32)>);
 
 pub struct Model {
     // The file, and its length in bytes.
@@ -23,7 +24,7 @@ pub struct Model {
     pub sizes: (u32, u8, u32, u32, u32),
     pub counts: &'static [Count],
     pub heads: &'static [Head],
-    pub atoms: &'static [Atom],
+    pub atoms: &'static [Condition],
 }
 
 fn sizes(t: &Table) -> (u32, u8, u32, u32, u32) {
@@ -49,10 +50,11 @@ fn check_heads(rt: &impl Abort, t: &Table, rows: &[Head], file: &str) {
     }
 }
 
-fn check_atoms(rt: &impl Abort, t: &Table, rows: &[Atom], file: &str) {
+fn check_atoms(rt: &impl Abort, t: &Table, rows: &[Condition], file: &str) {
     for row in rows {
+        let atom = t.atom(row.0, row.1, row.2);
         assert_eq!(rt;
-            t.atom(row.0, row.1, row.2),
+            atom.map(|a| (a.clock, a.comparison, a.constant)),
             row.3,
             "{}; {}; {}; {file}",
             row.0,

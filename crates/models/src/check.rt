@@ -1,9 +1,10 @@
 // Why a file is refused, or that it is not. Each test is that of the same record and number in specs/Format.antt.
 ghost use Rattle.std.specs.Prelude.{◌≡◌, ◌^◌, ◌≤◌, length, nat_lt, Ok, Err, MatchResult};
-ghost use Rattle.models.specs.Format.{clocks_of, resets_of, count_of, place_of_atom, framed, each_atom, atom_has_shape, edge_has_shape, atom_in_range, edge_in_range, atom_is_known, edge_is_known, try, head_verdict, edge_verdict, edges_verdict, verdict};
+ghost use Rattle.models.specs.Format.{clocks_of, resets_of, count_of, framed, each_atom, atom_has_shape, edge_has_shape, atom_in_range, edge_in_range, atom_is_known, edge_is_known, try, head_verdict, edge_verdict, edges_verdict, verdict};
 ghost use Rattle.models.specs.Model.{places_of};
 
 use crate::edges::{Edges, Places};
+use crate::head;
 use crate::record::{AtomRecord, Record};
 use machines::refusal::Refusal;
 
@@ -16,21 +17,21 @@ fn ensure(test: bool, refusal: Refusal) -> Result<(), Refusal>
 
 impl AtomRecord<'_> {
     fn has_shape(&self) -> bool
-        ensures { result ≡ atom_has_shape self.now.edge.bytes.now (place_of_atom self.now.edge.at self.now.i) }
+        ensures { result ≡ atom_has_shape self.now.bytes.now self.now.at }
     {
         self.spare() == 0
     }
 
     fn in_range(&self) -> bool
-        ensures { result ≡ atom_in_range self.now.edge.bytes.now (place_of_atom self.now.edge.at self.now.i) }
+        ensures { result ≡ atom_in_range self.now.bytes.now self.now.at }
     {
         self.comparison() <= 3 && self.constant() <= 100_000
     }
 
     fn is_known(&self) -> bool
-        ensures { result ≡ atom_is_known self.now.edge.bytes.now (place_of_atom self.now.edge.at self.now.i) }
+        ensures { result ≡ atom_is_known self.now.bytes.now self.now.at }
     {
-        self.clock() < self.edge.clocks()
+        self.clock() < head::clocks(self.bytes)
     }
 }
 
@@ -74,7 +75,7 @@ impl Record<'_> {
     fn edge_is_known(&self) -> bool
         ensures { result ≡ edge_is_known self.now.bytes.now self.now.at }
     {
-        let locations = self.locations();
+        let locations = head::locations(self.bytes);
         self.from() < locations
             && self.to() < locations
             && self.resets_are_known()
@@ -85,7 +86,7 @@ impl Record<'_> {
         ensures { result ≡ nat_lt (resets_of self.now.bytes.now self.now.at) (2 ^ clocks_of self.now.bytes.now) }
     {
         // The mask has no bit past the eighth.
-        let clocks = self.clocks().min(8);
+        let clocks = head::clocks(self.bytes).min(8);
         (self.resets() as u32) < 1 << clocks
     }
 
@@ -115,16 +116,16 @@ impl Record<'_> {
 fn check_head(bytes: &[u8]) -> Result<(), Refusal>
     ensures { result ≡ head_verdict bytes.now }
 {
-    let head = Record { bytes, at: 0 };
-    let locations = head.locations();
-    ensure(head.is_framed(), Refusal::Frame(0))?;
-    ensure(head.kind() == 1, Refusal::Kind(0))?;
+    let record = Record { bytes, at: 0 };
+    let locations = head::locations(bytes);
+    ensure(record.is_framed(), Refusal::Frame(0))?;
+    ensure(record.kind() == 1, Refusal::Kind(0))?;
     ensure(
-        head.size() == 8 && head.head_spare() == 0,
+        record.size() == 8 && head::spare(bytes) == 0,
         Refusal::Shape(0),
     )?;
     ensure(
-        (1..=256).contains(&locations) && head.clocks() <= 4,
+        (1..=256).contains(&locations) && head::clocks(bytes) <= 4,
         Refusal::Range(0),
     )
 }
@@ -137,6 +138,7 @@ fn check_edges(bytes: &[u8]) -> Result<Places, Refusal>
     let mut places = Places::new();
     let mut at = 8;
     let mut previous = 0;
+    // No iterator: each step goes by a length that was just tested.
     while (at as usize) < bytes.len() {
         let edge = Record { bytes, at };
         edge.check_edge(places.remaining_capacity(), previous)?;
@@ -148,7 +150,7 @@ fn check_edges(bytes: &[u8]) -> Result<Places, Refusal>
 }
 
 // The whole file.
-#[tactic(auto, unfolding(crate::specs::Format::verdict))]
+#[tactic(auto, using(crate::specs::Laws::Files::head_from), unfolding(crate::specs::Format::verdict))]
 pub(crate) fn check_file<'a>(bytes: &'a [u8]) -> Result<Edges<'a>, Refusal>
     ensures { MatchResult result (λ edges. edges.bytes.now ≡ bytes.now) (λ e. verdict bytes.now ≡ Err e) }
 {

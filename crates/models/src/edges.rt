@@ -3,6 +3,7 @@ ghost use Rattle.std.specs.Prelude.{◌≡◌, ℕ, ◌<◌, ◌≤◌, length, 
 ghost use Rattle.models.specs.Format.{locations_of, Accepted};
 ghost use Rattle.models.specs.Model.{places_of, places_at, below, widest, labels_of};
 
+use crate::head;
 use crate::record::Record;
 use arrayvec::ArrayVec;
 
@@ -11,7 +12,7 @@ pub(crate) type Places = ArrayVec<u32, 1024>;
 
 #[derive(Drop)]
 pub(crate) struct Edges<'a> {
-    bytes: &'a [u8],
+    pub bytes: &'a [u8],
     // In the order of the file.
     places: Places,
     // For each location, how many edges leave a lower one.
@@ -65,6 +66,7 @@ impl<'a> Edges<'a> {
     }
 
     // The places of the edges that leave `location`.
+    #[tactic(auto, using(crate::specs::Laws::Counts::of_leaving))]
     pub fn leaving(&self, location: u32) -> &[u32]
         ensures { result.now ≡ places_at self.now.bytes.now location }
     {
@@ -77,6 +79,7 @@ impl<'a> Edges<'a> {
     }
 
     // How many edges leave `location`.
+    #[tactic(auto, using(crate::specs::Laws::Models::few_leaving))]
     pub fn count(&self, location: u32) -> u32
         ensures { result ≡ length (places_at self.now.bytes.now location) }
     {
@@ -87,7 +90,7 @@ impl<'a> Edges<'a> {
     pub fn width(&self) -> u32
         ensures { result ≡ widest self.now.bytes.now (locations_of self.now.bytes.now) }
     {
-        let locations = self.record(0).locations();
+        let locations = head::locations(self.bytes);
         (0..locations as u32)
             .map(|l| self.count(l))
             .max()

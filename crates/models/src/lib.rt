@@ -3,6 +3,7 @@
 
 mod check;
 mod edges;
+mod head;
 pub mod numbers;
 mod record;
 pub mod table;

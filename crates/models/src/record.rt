@@ -1,9 +1,12 @@
 // The records of a file and the atoms of an edge, by the names of their fields.
-ghost use Rattle.std.specs.Prelude.{◌≡◌, ◌+◌};
+ghost use Rattle.std.specs.Prelude.{◌≡◌, ◌+◌, ◌^◌, ◌<◌};
+ghost use Rattle.machines.specs.Comparisons.{coded};
 ghost use Rattle.models.specs.Numbers.{byte, two_bytes};
-ghost use Rattle.models.specs.Format.{size_of, kind_of, locations_of, clocks_of, from_of, to_of, label_of, resets_of, count_of, place_of_atom, clock_of, comparison_of, constant_of};
+ghost use Rattle.models.specs.Format.{size_of, kind_of, from_of, to_of, label_of, resets_of, count_of, place_of_atom, clock_of, comparison_of, constant_of};
 
 use crate::numbers::{byte_at, u16_at, u32_at};
+use machines::atom::Atom;
+use machines::comparison::Comparison;
 
 // The record at a place of the file.
 #[derive(Clone, Copy)]
@@ -12,11 +15,12 @@ pub(crate) struct Record<'a> {
     pub at: u32,
 }
 
-// An atom of an edge, by its number.
+// The atom at a place of the file.
 #[derive(Clone, Copy)]
 pub(crate) struct AtomRecord<'a> {
-    pub edge: Record<'a>,
-    pub i: u8,
+    pub bytes: &'a [u8],
+    pub at: usize,
+    ghost near: { at < 2 ^ 33 },
 }
 
 impl<'a> Record<'a> {
@@ -44,26 +48,7 @@ impl<'a> Record<'a> {
         self.two_bytes(2)
     }
 
-    // Of the head, with which the record's file begins.
-    pub fn locations(&self) -> u16
-        ensures { result ≡ locations_of self.now.bytes.now }
-    {
-        u16_at(self.bytes, 4)
-    }
-
-    pub fn clocks(&self) -> u8
-        ensures { result ≡ clocks_of self.now.bytes.now }
-    {
-        byte_at(self.bytes, 6)
-    }
-
-    pub fn head_spare(&self) -> u8
-        ensures { result ≡ byte self.now.bytes.now 7 }
-    {
-        byte_at(self.bytes, 7)
-    }
-
-    // Of an edge.
+    // Of an edge, as all that follows.
     pub fn from(&self) -> u16
         ensures { result ≡ from_of self.now.bytes.now self.now.at }
     {
@@ -100,42 +85,63 @@ impl<'a> Record<'a> {
         self.byte(11)
     }
 
-    pub fn atom(&self, i: u8) -> AtomRecord<'a>
-        ensures edge { result.edge ≡ self.now }
-        ensures number { result.i ≡ i }
+    // The label, target, resets and number of atoms.
+    pub fn edge_head(&self) -> (u8, u32, u8, u32)
+        ensures { result ≡ (label_of self.now.bytes.now self.now.at, to_of self.now.bytes.now self.now.at, resets_of self.now.bytes.now self.now.at, count_of self.now.bytes.now self.now.at) }
     {
-        AtomRecord { edge: *self, i }
+        (
+            self.label(),
+            self.to() as u32,
+            self.resets(),
+            self.count() as u32,
+        )
+    }
+
+    pub fn atom(&self, i: u8) -> AtomRecord<'a>
+        ensures bytes { result.bytes ≡ self.now.bytes }
+        ensures at { result.at ≡ place_of_atom self.now.at i }
+    {
+        AtomRecord {
+            bytes: self.bytes,
+            at: self.at as usize + 12 + 8 * i as usize,
+        }
     }
 }
 
 impl AtomRecord<'_> {
-    fn place(&self, offset: u8) -> usize
-        ensures { result ≡ place_of_atom self.now.edge.at self.now.i + offset }
-    {
-        self.edge.at as usize + 12 + 8 * self.i as usize + offset as usize
-    }
-
     pub fn clock(&self) -> u8
-        ensures { result ≡ clock_of self.now.edge.bytes.now (place_of_atom self.now.edge.at self.now.i) }
+        ensures { result ≡ clock_of self.now.bytes.now self.now.at }
     {
-        byte_at(self.edge.bytes, self.place(0))
+        byte_at(self.bytes, self.at)
     }
 
     pub fn comparison(&self) -> u8
-        ensures { result ≡ comparison_of self.now.edge.bytes.now (place_of_atom self.now.edge.at self.now.i) }
+        ensures { result ≡ comparison_of self.now.bytes.now self.now.at }
     {
-        byte_at(self.edge.bytes, self.place(1))
+        byte_at(self.bytes, self.at + 1)
     }
 
     pub fn spare(&self) -> u16
-        ensures { result ≡ two_bytes self.now.edge.bytes.now (place_of_atom self.now.edge.at self.now.i + 2) }
+        ensures { result ≡ two_bytes self.now.bytes.now (self.now.at + 2) }
     {
-        u16_at(self.edge.bytes, self.place(2))
+        u16_at(self.bytes, self.at + 2)
     }
 
     pub fn constant(&self) -> u32
-        ensures { result ≡ constant_of self.now.edge.bytes.now (place_of_atom self.now.edge.at self.now.i) }
+        ensures { result ≡ constant_of self.now.bytes.now self.now.at }
     {
-        u32_at(self.edge.bytes, self.place(4))
+        u32_at(self.bytes, self.at + 4)
+    }
+
+    pub fn read(&self) -> Atom
+        ensures clock { result.clock ≡ clock_of self.now.bytes.now self.now.at }
+        ensures comparison { result.comparison ≡ coded (comparison_of self.now.bytes.now self.now.at) }
+        ensures constant { result.constant ≡ constant_of self.now.bytes.now self.now.at }
+    {
+        Atom {
+            clock: self.clock(),
+            comparison: Comparison::from(self.comparison()),
+            constant: self.constant(),
+        }
     }
 }

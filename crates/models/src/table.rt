@@ -8,9 +8,9 @@ ghost use Rattle.models.specs.Laws.Models.{model_lawful};
 
 use crate::check::check_file;
 use crate::edges::Edges;
+use crate::head;
 use crate::record::Record;
 use machines::atom::Atom;
-use machines::comparison::Comparison;
 use machines::machine::Machine;
 use machines::refusal::Refusal;
 
@@ -36,6 +36,7 @@ impl<'a> Table<'a> {
     }
 
     // The table of the file, or why it is refused.
+    #[tactic(auto, using(crate::specs::Laws::Files::lawful_from, crate::specs::Laws::Files::lawful_to))]
     pub fn read(file: &'a [u8]) -> Result<Table<'a>, Refusal>
         ensures answer { MatchResult result (λ t. t.edges.bytes.now ≡ file.now) (λ e. verdict file.now ≡ Err e) }
         ensures lawful { Decides (is_ok result) (LawfulFile file.now) }
@@ -77,17 +78,18 @@ impl<'a> Table<'a> {
     }
 }
 
+#[tactic(auto, using(crate::specs::Laws::Questions::answers))]
 impl<'a> Machine for Table<'a> {
     ghost meaning = { λ t. model t.edges.bytes.now };
 
     ghost lawful = { λ t. model_lawful t.edges.bytes.now t.edges.accepted };
 
     fn locations(&self) -> u32 {
-        self.edges.record(0).locations() as u32
+        head::locations(self.edges.bytes) as u32
     }
 
     fn clocks(&self) -> u8 {
-        self.edges.record(0).clocks()
+        head::clocks(self.edges.bytes)
     }
 
     fn width(&self) -> u32 {
@@ -107,12 +109,7 @@ impl<'a> Machine for Table<'a> {
 
     fn edge_head(&self, location: u32, k: u32) -> Option<(u8, u32, u8, u32)> {
         let edge = self.edge(location, k)?;
-        Some((
-            edge.label(),
-            edge.to() as u32,
-            edge.resets(),
-            edge.count() as u32,
-        ))
+        Some(edge.edge_head())
     }
 
     fn atom(&self, location: u32, k: u32, i: u32) -> Option<Atom> {
@@ -120,11 +117,6 @@ impl<'a> Machine for Table<'a> {
         if i >= edge.count() as u32 {
             return None;
         }
-        let record = edge.atom(i as u8);
-        Some(Atom {
-            clock: record.clock(),
-            comparison: Comparison::from(record.comparison()),
-            constant: record.constant(),
-        })
+        Some(edge.atom(i as u8).read())
     }
 }

@@ -7,6 +7,8 @@ use Rattle.std.specs.List.Sorted.{IsNonDecreasingBy, IsPartitionPoint}
 use Rattle.models.specs.Format.{from_of, Accepted}
 use Rattle.models.specs.Model.{places_of, places_at}
 use Rattle.models.specs.Model.{below}
+use Rattle.models.specs.Laws.Files.{accepted_parts}
+use Rattle.models.specs.Laws.Models.{none_past}
 use Rattle.models.specs.Laws.Places.{places_sorted}
 use Rattle.models.specs.Laws.Sorted.{few_below, more_below, non_decreasing, count_is, together}
 
@@ -39,3 +41,6 @@ module _ (bs : List ℕ) where
     pub places_between : (l : ℕ) → places_at bs l ≡ take (below bs (l + 1) - below bs l) (drop (below bs l) (places_of bs))
     unfolding below
     places_between l = together (from_of bs) l 0 (places_of bs) (places_sorted bs ok)
+
+-- what the places of a location's edges are found by
+pub ruleset of_leaving = (below_few, below_more, places_between, none_past, accepted_parts)

@@ -68,3 +68,6 @@ module _ (bs : List ℕ) (ok : Accepted bs) where
 
     pub no_edge_atom : (i : ℕ) → None ≡ atom_at (model bs) l k i
     no_edge_atom i = sym (ap (λ o. atom_of o i) (edge_at_is bs ok l k ∙ ap (option_map (edge_read bs)) (sym e)))
+
+-- what each question is proved by
+pub ruleset answers = (count_answer, no_count_answer, head_answer, no_edge_head, atom_answer, no_atom_answer, no_edge_atom)

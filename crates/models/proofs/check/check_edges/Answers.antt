@@ -1,7 +1,7 @@
 use Rattle.std.proofs.Common.{◌≡◌, ℕ, ◌+◌, ◌-◌, ◌<◌, List, [], ◌∷◌, ◌++◌, length, Err, ◌≢◌, refl, sym, ap, ◌∙◌, arith}
 use Rattle.std.proofs.lemmas.List.{append-nil, append_assoc}
 use Rattle.std.proofs.lemmas.Result.{err_from_is_err_and}
-use Rattle.models.specs.Format.{size_of, edges_verdict}
+use Rattle.models.specs.Format.{size_of, from_of, edges_verdict}
 use Rattle.models.specs.Model.{places_from, places_of}
 use Rattle.models.specs.Laws.Files.{edge_from, edges_done, edges_refused, edges_passed}
 use Rattle.models.specs.Laws.Places.{places_done, places_step}
@@ -43,11 +43,11 @@ loop-at-preserved c =
     let ne : at ≢ length bs = omega arith in
     let before : 1024 - length ps ≡ room = omega arith in
     let after : 1024 - length c.push.new.self.items ≡ room - 1 = omega arith in
-    let passed = edges_passed bs room at c.loop-at.previous ne accepted in
+    let passed : edges_verdict (1024 - length ps) bs at c.loop-at.previous ≡ edges_verdict (room - 1) bs (at + size_of bs at) (from_of bs at) = rw before (edges_passed bs room at c.loop-at.previous ne accepted) in
     let more = more_places bs ps room at ne e.1 in
-    rw (after, c.push.ensures.items, c.size.ensures, c.from-previous.ensures) (record {
+    rw (after, c.push.ensures.items, c.size.ensures) (record {
       within = omega (arith, e.0.whole);
-      same = c.loop-at.invariant.same ∙ rw before passed;
+      same = c.loop-at.invariant.same ∙ passed ∙ (cc);
       all = more ∙ rw (← before) c.loop-at.invariant.all;
     })
 
