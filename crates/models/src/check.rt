@@ -131,6 +131,7 @@ fn check_head(bytes: &[u8]) -> Result<(), Refusal>
 }
 
 // The places of the edges after the head.
+#[tactic(auto, using(crate::specs::Laws::Places::by_edges), unfolding(crate::specs::Model::places_of))]
 fn check_edges(bytes: &[u8]) -> Result<Places, Refusal>
     requires { (8 ≤ length bytes.now) × (length bytes.now ≤ 65536) }
     ensures { MatchResult result (λ places. (edges_verdict 1024 bytes.now 8 0 ≡ Ok tt) × (places.items ≡ places_of bytes.now)) (λ e. edges_verdict 1024 bytes.now 8 0 ≡ Err e) }
