@@ -1,5 +1,5 @@
 // Why a file is refused, or that it is not. Each test is that of the same record and number in specs/Format.antt.
-ghost use Rattle.std.specs.Prelude.{◌≡◌, ◌^◌, ◌≤◌, length, nat_lt, Ok, Err, MatchResult};
+ghost use Rattle.std.specs.Prelude.{◌≡◌, ◌^◌, ◌≤◌, length, nat_lt, MatchResult};
 ghost use Rattle.models.specs.Format.{clocks_of, resets_of, count_of, framed, each_atom, atom_has_shape, edge_has_shape, atom_in_range, edge_in_range, atom_is_known, edge_is_known, try, head_verdict, edge_verdict, edges_verdict, verdict};
 ghost use Rattle.models.specs.Model.{places_of};
 
