@@ -1,6 +1,6 @@
 pub mod Atoms
-pub mod Files
 pub mod Counts
+pub mod Files
 pub mod Models
 pub mod Places
 pub mod Questions

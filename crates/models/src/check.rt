@@ -1,5 +1,5 @@
 // Why a file is refused, or that it is not. Each test is that of the same record and number in specs/Format.antt.
-ghost use Rattle.std.specs.Prelude.{◌≡◌, ◌^◌, ◌≤◌, length, nat_lt, Ok, Err, MatchResult};
+ghost use Rattle.std.specs.Prelude.{◌≡◌, ◌^◌, ◌≤◌, length, nat_lt, MatchResult};
 ghost use Rattle.models.specs.Format.{clocks_of, resets_of, count_of, framed, each_atom, atom_has_shape, edge_has_shape, atom_in_range, edge_in_range, atom_is_known, edge_is_known, try, head_verdict, edge_verdict, edges_verdict, verdict};
 ghost use Rattle.models.specs.Model.{places_of};
 
@@ -131,6 +131,7 @@ fn check_head(bytes: &[u8]) -> Result<(), Refusal>
 }
 
 // The places of the edges after the head.
+#[tactic(auto, using(crate::specs::Laws::Places::by_edges), unfolding(crate::specs::Model::places_of))]
 fn check_edges(bytes: &[u8]) -> Result<Places, Refusal>
     requires { (8 ≤ length bytes.now) × (length bytes.now ≤ 65536) }
     ensures { MatchResult result (λ places. (edges_verdict 1024 bytes.now 8 0 ≡ Ok tt) × (places.items ≡ places_of bytes.now)) (λ e. edges_verdict 1024 bytes.now 8 0 ≡ Err e) }

@@ -1,5 +1,5 @@
 // A model over the bytes of its file, which are lent and never copied.
-ghost use Rattle.std.specs.Prelude.{◌≡◌, true, length, Some, None, Err, IfSome, MatchOption, MatchResult, is_ok, if◌then◌else◌, Decides, ◌≢◌};
+ghost use Rattle.std.specs.Prelude.{◌≡◌, true, length, MatchOption, MatchResult, is_ok, if◌then◌else◌, Decides, ◌≢◌};
 ghost use Rattle.std.specs.List.{slice_get};
 ghost use Rattle.machines.specs.Automaton.{bare};
 ghost use Rattle.models.specs.Format.{locations_of, LawfulFile, verdict};

@@ -5,8 +5,7 @@ use Rattle.std.proofs.lemmas.Bool.{ltb-true}
 use Rattle.std.proofs.lemmas.Bool.Decides.{nat_tests}
 use Rattle.std.specs.List.Sorted.{IsNonDecreasingBy, IsPartitionPoint}
 use Rattle.models.specs.Format.{from_of, Accepted}
-use Rattle.models.specs.Model.{places_of, places_at}
-use Rattle.models.specs.Model.{below}
+use Rattle.models.specs.Model.{places_of, places_at, below}
 use Rattle.models.specs.Laws.Files.{accepted_parts}
 use Rattle.models.specs.Laws.Models.{none_past}
 use Rattle.models.specs.Laws.Places.{places_sorted}

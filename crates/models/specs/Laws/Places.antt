@@ -8,7 +8,7 @@ use Rattle.std.proofs.ByRecursion.{All-weaker}
 use Rattle.std.specs.List.{AllByRecursion}
 use Rattle.models.specs.Format.{size_of, from_of, label_of, EdgeRecord, Chain, ended, edged, Accepted}
 use Rattle.models.specs.Model.{places_from, places_of}
-use Rattle.models.specs.Laws.Files.{lawful_from}
+use Rattle.models.specs.Laws.Files.{edge_from, edges_done, edges_refused, edges_passed, lawful_from}
 use Rattle.models.specs.Laws.Sorted.{Sorted}
 
 module _ (bs : List ℕ) where
@@ -59,3 +59,6 @@ module _ (bs : List ℕ) where
   pub few_edges : length (places_of bs) ≤ 1024
   unfolding places_of
   few_edges = few_places 1024 8
+
+-- what the edges and their places are found by, one at a time
+pub ruleset by_edges = (edge_from, edges_done, edges_refused, edges_passed, places_done, places_step)
