@@ -52,6 +52,7 @@ impl fmt::Display for Fault {
 
 impl Error for Fault {}
 
+// These are written by hand, since clauses say which fault `?` makes of another error.
 impl From<AllocError> for Fault {
     ghost from_gives = { λ _ r. r ≡ Memory };
 

@@ -12,6 +12,7 @@ pub enum Source<'a> {
     Digits(&'a [u8]),
 }
 
+// The source that a word is.
 impl<'a> From<&'a [u8]> for Source<'a> {
     ghost from_gives = { λ word source. SourceIs word.now source };
 

@@ -1,7 +1,7 @@
 // What a line of a script says.
-ghost use Rattle.std.specs.Prelude.{◌≡◌, ◌≤◌, map, length, codes, MatchResult};
+ghost use Rattle.std.specs.Prelude.{◌≡◌, map, MatchResult};
 ghost use Rattle.scripts.specs.declared.fault.Fault.TheVariants.{Number};
-ghost use Rattle.scripts.specs.Spelling.{Recognized, Read, fitting, word_at};
+ghost use Rattle.scripts.specs.Spelling.{Recognized, Read};
 ghost use Rattle.scripts.specs.Numbers.{Writes, Written};
 
 use crate::fault::Fault;
@@ -17,7 +17,7 @@ pub enum Keyword {
     Replay,
 }
 
-// The labels a and b, the label set m and the limit c.
+// What the words after a deadline's name write: the labels a and b, the label set m and the limit c.
 #[derive(Clone, Copy, PartialEq, Eq, Debug)]
 pub struct DeadlineNumbers {
     pub a: u32,
@@ -53,6 +53,7 @@ pub enum Statement<'a> {
     },
 }
 
+// The keyword that a word is.
 impl TryFrom<&[u8]> for Keyword {
     type Error = Fault;
 
