@@ -1,6 +1,7 @@
 // What a machine that a script makes is answered.
-ghost use Rattle.console.specs.Stations.{ModelRead, Paired, PairReplayed, PartReplayed};
-ghost use Rattle.words.specs.Replays.{word_of};
+ghost use Rattle.console.specs.Stations.{ModelRead, Paired, part_automaton};
+ghost use Rattle.pairs.specs.Product.{pair_of};
+ghost use Rattle.words.specs.Replays.{word_of, Replayed};
 
 use crate::part::{Part, station};
 use machines::machine::{Summary, summarize};
@@ -21,7 +22,7 @@ pub fn read_model(file: &[u8]) -> Result<(Summary, u32), Refusal>
 
 // The numbers of the pair of the two parts, or why there is none.
 pub fn read_pair(left: &Part, right: &Part) -> Result<Summary, Refusal>
-    ensures { Paired left.now right.now result }
+    ensures { Paired (part_automaton left.now) (part_automaton right.now) result }
 {
     let left = station(left);
     let right = station(right);
@@ -31,14 +32,14 @@ pub fn read_pair(left: &Part, right: &Part) -> Result<Summary, Refusal>
 
 // What the word is answered on the part's machine.
 pub fn replay_part(part: &Part, grid: u32, word: &[Letter]) -> Result<bool, Refusal>
-    ensures { PartReplayed part.now grid (word_of word.now) result }
+    ensures { Replayed (part_automaton part.now) grid (word_of word.now) result }
 {
     replay(&station(part), grid, word)
 }
 
 // What the word is answered on the pair of the two parts.
 pub fn replay_pair(left: &Part, right: &Part, grid: u32, word: &[Letter]) -> Result<bool, Refusal>
-    ensures { PairReplayed left.now right.now grid (word_of word.now) result }
+    ensures { Replayed (pair_of (part_automaton left.now) (part_automaton right.now)) grid (word_of word.now) result }
 {
     replay(&Pair::new(station(left), station(right)), grid, word)
 }

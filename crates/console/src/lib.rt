@@ -2,6 +2,7 @@
 #![tactic(auto)]
 
 pub mod answer;
+pub mod named;
 pub mod part;
 pub mod session;
 pub mod sign;
