@@ -46,3 +46,6 @@ module _ {Y Z : Type 0} where
         ∙ ap (find (slice_cmp nat_cmp) q) (ap (map entry) is ∙ putting k v m.entries)
         ∙ find-put (slice_cmp nat_cmp) nat_list_cmp_total q (vec_items k) (shared v) (map entry m.entries)
         ∙ sym (get-insert nat_list_cmp_total (read m) (vec_items k) (shared v) q ∙ ap (cond _ (Some (shared v))) (get-from_entries nat_list_cmp_total (map entry m.entries) q)))
+
+-- what a session's map has at a name, and after a name is given
+pub ruleset reading = (get-read, read-insert)

@@ -48,6 +48,7 @@ impl Session {
     }
 
     // What the name stands for.
+    #[tactic(auto, using(crate::proofs::Entries::reading))]
     pub fn find(&self, name: &[u8]) -> Option<&Named<Rc<Part>>>
         ensures { option_map shared (option_copied result) ≡ get self.now name.now }
     {
@@ -55,6 +56,7 @@ impl Session {
     }
 
     // Gives the name to what there is. Where memory fails no name changes.
+    #[tactic(auto, using(crate::proofs::Entries::reading))]
     fn bind(&mut self, heap: Global, name: &[u8], what: Named<Rc<Part>>) -> Result<(), AllocError>
         ensures ok { OnOk result (self.new ≡ insert self.old name.now (shared what)) }
         ensures err { OnErr result (self.new ≡ self.old) }
@@ -69,7 +71,8 @@ impl Session {
         ensures ok { OnOk result (self.new ≡ insert self.old name.now (Named.Part part)) }
         ensures err { OnErr result (self.new ≡ self.old) }
     {
-        self.bind(heap, name, Named::Part(Rc::new(heap, part)?))
+        let part = Rc::new(heap, part)?;
+        self.bind(heap, name, Named::Part(part))
     }
 
     // Loads a table under the name and answers its numbers. Where the file is refused the name stands for what it did, and a
