@@ -1,4 +1,3 @@
-pub mod Choices
 pub mod Deadlines
 pub mod Lists
 pub mod Masks

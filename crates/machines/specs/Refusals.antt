@@ -1,5 +1,6 @@
--- The number and the place of each refusal.
-use Rattle.std.specs.Prelude.{◌≡◌, ℕ}
+-- The number, the place and the text of each refusal.
+use Rattle.std.specs.Prelude.{◌≡◌, ℕ, List, ◌++◌, codes}
+use Rattle.std.specs.Fmt.{decimal}
 use Rattle.machines.specs.declared.refusal.Refusal.{Refusal}
 use Rattle.machines.specs.declared.refusal.Refusal.TheVariants.{Frame, Kind, Shape, Range, Missing, Order, Pair, Deadline, Word, Crowd}
 
@@ -31,3 +32,6 @@ place_of (Crowd step) = step
 -- a refusal with this number and place
 abbrev pub Refused : Refusal → ℕ → ℕ → Type 0
 Refused e number place = (number_of e ≡ number) × (place_of e ≡ place)
+
+abbrev pub text_of : Refusal → List ℕ
+text_of e = codes "refused " ++ decimal (number_of e) ++ codes " at " ++ decimal (place_of e)

@@ -1,87 +1,81 @@
 // One of two machines.
 ghost use Rattle.std.specs.Prelude.{◌≡◌, if◌then◌else◌};
-ghost use Rattle.machines.specs.Laws.Choices.{chosen_lawful};
+ghost use Rattle.machines.specs.declared.choice.Choice.TheVariants.{First, Second};
 
+use crate::atom::Atom;
 use crate::machine::Machine;
 
-// The second machine where it is taken, and else the first: a machine whose kind is known only as the program runs.
-#[derive(Drop)]
-pub struct Choice<A, B> {
-    first: A,
-    second: B,
-    takes: bool,
+// A machine whose kind is known only as the program runs.
+#[derive(Clone, Copy, PartialEq, Eq, Debug, Drop)]
+pub enum Choice<A, B> {
+    First(A),
+    Second(B),
 }
 
-impl<A, B> Choice<A, B> {
+impl<A: Drop, B: Drop> Choice<A, B> {
+    // The second machine where it is taken, and else the first.
     pub fn new(first: A, second: B, takes: bool) -> Self
-        ensures { (result.first ≡ first) × (result.second ≡ second) × (result.takes ≡ takes) }
+        ensures { result ≡ (if takes then Second second else First first) }
     {
-        Choice {
-            first,
-            second,
-            takes,
+        if takes {
+            Choice::Second(second)
+        } else {
+            Choice::First(first)
         }
     }
 }
 
 impl<A: Machine, B: Machine> Machine for Choice<A, B> {
-    ghost meaning = { λ c. (if c.takes then B.Machine.meaning c.second else A.Machine.meaning c.first) };
+    ghost meaning = { elim [ First m ↦ A.Machine.meaning m | Second m ↦ B.Machine.meaning m ] };
 
-    ghost lawful = { λ c. chosen_lawful c.takes (B.Machine.lawful c.second) (A.Machine.lawful c.first) };
+    ghost lawful = { elim [ First m ↦ A.Machine.lawful m | Second m ↦ B.Machine.lawful m ] };
 
     fn locations(&self) -> u32 {
-        if self.takes {
-            self.second.locations()
-        } else {
-            self.first.locations()
+        match self {
+            Choice::First(m) => m.locations(),
+            Choice::Second(m) => m.locations(),
         }
     }
 
     fn clocks(&self) -> u8 {
-        if self.takes {
-            self.second.clocks()
-        } else {
-            self.first.clocks()
+        match self {
+            Choice::First(m) => m.clocks(),
+            Choice::Second(m) => m.clocks(),
         }
     }
 
     fn width(&self) -> u32 {
-        if self.takes {
-            self.second.width()
-        } else {
-            self.first.width()
+        match self {
+            Choice::First(m) => m.width(),
+            Choice::Second(m) => m.width(),
         }
     }
 
     fn labels(&self) -> u32 {
-        if self.takes {
-            self.second.labels()
-        } else {
-            self.first.labels()
+        match self {
+            Choice::First(m) => m.labels(),
+            Choice::Second(m) => m.labels(),
         }
     }
 
     fn edge_count(&self, location: u32) -> Option<u32> {
-        if self.takes {
-            self.second.edge_count(location)
-        } else {
-            self.first.edge_count(location)
+        match self {
+            Choice::First(m) => m.edge_count(location),
+            Choice::Second(m) => m.edge_count(location),
         }
     }
 
     fn edge_head(&self, location: u32, k: u32) -> Option<(u8, u32, u8, u32)> {
-        if self.takes {
-            self.second.edge_head(location, k)
-        } else {
-            self.first.edge_head(location, k)
+        match self {
+            Choice::First(m) => m.edge_head(location, k),
+            Choice::Second(m) => m.edge_head(location, k),
         }
     }
 
-    fn atom(&self, location: u32, k: u32, i: u32) -> Option<(u8, u8, u32)> {
-        if self.takes {
-            self.second.atom(location, k, i)
-        } else {
-            self.first.atom(location, k, i)
+    fn atom(&self, location: u32, k: u32, i: u32) -> Option<Atom> {
+        match self {
+            Choice::First(m) => m.atom(location, k, i),
+            Choice::Second(m) => m.atom(location, k, i),
         }
     }
 }

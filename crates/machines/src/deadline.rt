@@ -4,6 +4,8 @@ ghost use Rattle.machines.specs.Deadline.{deadline, DeadlineArguments};
 ghost use Rattle.machines.specs.Refusals.{Refused};
 ghost use Rattle.machines.specs.Laws.Deadlines.{deadline_lawful};
 
+use crate::atom::Atom;
+use crate::comparison::Comparison;
 use crate::machine::Machine;
 use crate::mask::{has_label, kth_label};
 use crate::refusal::Refusal;
@@ -73,10 +75,14 @@ impl Machine for Deadline {
         }
     }
 
-    fn atom(&self, location: u32, k: u32, i: u32) -> Option<(u8, u8, u32)> {
+    fn atom(&self, location: u32, k: u32, i: u32) -> Option<Atom> {
         let count = self.m.count_ones();
         if location == 1 && k < count && i == 0 {
-            Some((0, 1, self.c))
+            Some(Atom {
+                clock: 0,
+                comparison: Comparison::AtMost,
+                constant: self.c,
+            })
         } else {
             None
         }

@@ -1,6 +1,10 @@
 // What every machine answers, and its meaning.
 ghost use Rattle.std.specs.Prelude.{◌≡◌};
+ghost use Rattle.std.specs.Option.{option_map};
 ghost use Rattle.machines.specs.Automaton.{Automaton, Lawful, edge_count, head_at, atom_at};
+ghost use Rattle.machines.specs.Comparisons.{numbers_of};
+
+use crate::atom::Atom;
 
 pub trait Machine {
     // The automaton that the machine is.
@@ -31,13 +35,13 @@ pub trait Machine {
     fn edge_head(&self, location: u32, k: u32) -> Option<(u8, u32, u8, u32)>
         ensures { result ≡ head_at (meaning self.now) location k };
 
-    // The clock, comparison and constant of that edge's atom `i`.
-    fn atom(&self, location: u32, k: u32, i: u32) -> Option<(u8, u8, u32)>
-        ensures { result ≡ atom_at (meaning self.now) location k i };
+    // That edge's atom `i`.
+    fn atom(&self, location: u32, k: u32, i: u32) -> Option<Atom>
+        ensures { option_map numbers_of result ≡ atom_at (meaning self.now) location k i };
 }
 
 // The numbers of a machine as a whole.
-#[derive(Clone, Copy, PartialEq, Debug)]
+#[derive(Clone, Copy, PartialEq, Eq, Debug)]
 pub struct Summary {
     pub locations: u32,
     pub clocks: u8,

@@ -1,10 +1,12 @@
 // Why an input or a call is refused.
-ghost use Rattle.std.specs.Prelude.{◌≡◌};
-ghost use Rattle.machines.specs.Refusals.{number_of, place_of};
+ghost use Rattle.std.specs.Prelude.{◌≡◌, Some};
+ghost use Rattle.machines.specs.Refusals.{number_of, place_of, text_of};
+
+use std::fmt;
 
 // One case for each number. A case that speaks of a record has the place of the record's first byte, and one
 // that speaks of a step the step's number.
-#[derive(Clone, Copy, PartialEq, Debug)]
+#[derive(Clone, Copy, PartialEq, Eq, Debug)]
 pub enum Refusal {
     // The file is too long, or a record is cut short.
     Frame(usize),
@@ -55,5 +57,14 @@ impl Refusal {
             Refusal::Crowd(step) => step,
             Refusal::Pair | Refusal::Deadline | Refusal::Word => 0,
         }
+    }
+}
+
+// As 'refused 4 at 12'.
+impl fmt::Display for Refusal {
+    ghost output = { λ e. Some (text_of e) };
+
+    fn fmt<W: fmt::Write>(&self, f: &mut fmt::Formatter<W>) -> fmt::Result {
+        write!(f, "refused {} at {}", self.number(), self.place())
     }
 }

@@ -3,12 +3,12 @@ use Rattle.std.specs.Prelude.{◌≡◌, ℕ, zero, suc, ◌^◌, ◌<◌, ◌�
 use Rattle.std.proofs.Common.{sym, ap, subst, ◌∙◌, arith}
 use Rattle.std.proofs.lemmas.Nat.{ones-le}
 use Rattle.std.proofs.lemmas.List.{length-map}
-use Rattle.std.proofs.lemmas.Option.{slice_get-get_or}
+use Rattle.std.proofs.lemmas.Option.{slice_get-get_or, slice_get-map, slice_get_within}
 use Rattle.std.specs.List.{slice_get}
 use Rattle.std.specs.Option.{option_map}
-use Rattle.machines.specs.Automaton.{Atom, Edge, edge_at, LawfulAtom, LawfulEdge, Lawful, Carried, leaving, edge_count, head_at, atom_of, atom_at}
+use Rattle.machines.specs.Automaton.{Atom, Edge, edge_at, LawfulAtom, LawfulEdge, Lawful, Carried, leaving, edge_count, atom_of, atom_at}
 use Rattle.machines.specs.Deadline.{labels_in, IsLabel, DeadlineArguments, deadline, idle_edge, armed_edge, within}
-use Rattle.machines.specs.Laws.Lists.{nth_map, from_map, nth_inside}
+use Rattle.machines.specs.Laws.Lists.{from_map}
 use Rattle.machines.specs.Laws.Masks.{length-labels, label_is_set, set_is_label, bit_below}
 
 choice : (b : Bool) (m n k : ℕ) → m < k → n < k → cond b m n < k
@@ -63,7 +63,7 @@ module _ (a b m c : ℕ) (ok : DeadlineArguments a b m c) where
   carried : (l : ℕ) → IsLabel m l → Carried (deadline a b m c) l
   carried l h =
       let p = set_is_label m l h in
-      record { location = 0; index = p.0; edge = idle_edge a l; stands = nth_map (idle_edge a) (labels_in m) p.0 ∙ ap (option_map (idle_edge a)) p.1; carries = refl }
+      record { location = 0; index = p.0; edge = idle_edge a l; stands = slice_get-map (idle_edge a) (labels_in m) p.0 ∙ ap (option_map (idle_edge a)) p.1; carries = refl }
 
   pub deadline_lawful : Lawful (deadline a b m c)
   deadline_lawful = record {
@@ -84,32 +84,21 @@ module _ (a b m c : ℕ) where
   count_answer small (suc zero) h = ap (λ n. Some n) (sym (length-map (labels_in m) (armed_edge b c) ∙ length-labels m small))
   count_answer small (suc (suc l)) h = absurd (omega arith)
 
-  pub idle_answer : (l k x : ℕ) (is-a : Bool) → l ≡ 0 → Some x ≡ slice_get (labels_in m) k → (x == a) ≡ is-a → Some (x, cond is-a 1 0, cond is-a 1 0, 0) ≡ head_at (deadline a b m c) l k
-  idle_answer l k x is-a here e t = rw (here, nth_map (idle_edge a) (labels_in m) k, ← e, t)
-
-  pub armed_answer : (l k x : ℕ) (is_b : Bool) → l ≡ 1 → Some x ≡ slice_get (labels_in m) k → (x == b) ≡ is_b → Some (x, cond is_b 0 1, 0, 1) ≡ head_at (deadline a b m c) l k
-  armed_answer l k x is_b here e t = rw (here, nth_map (armed_edge b c) (labels_in m) k, ← e, t)
-
-  pub no_label_answer : (l k : ℕ) → None ≡ slice_get (labels_in m) k → None ≡ head_at (deadline a b m c) l k
-  no_label_answer zero k e = rw (nth_map (idle_edge a) (labels_in m) k, ← e)
-  no_label_answer (suc zero) k e = rw (nth_map (armed_edge b c) (labels_in m) k, ← e)
-  no_label_answer (suc (suc l)) k e = refl
-
   pub atom_answer : m < 2 ^ 32 → (l k i : ℕ) → l ≡ 1 → k < count_ones m → i ≡ 0 → Some (0, 1, c) ≡ atom_at (deadline a b m c) l k i
   atom_answer small l k i here some first =
       let read = slice_get-get_or (labels_in m) k 0 (omega (arith, length-labels m small)) in
-      rw (here, first, nth_map (armed_edge b c) (labels_in m) k, read)
+      rw (here, first, slice_get-map (armed_edge b c) (labels_in m) k, read)
 
   pub no_atom_answer : m < 2 ^ 32 → (l k i : ℕ) → (l ≡ 1 → k < count_ones m → i ≢ 0) → None ≡ atom_at (deadline a b m c) l k i
-  no_atom_answer small zero k i h = rw (nth_map (idle_edge a) (labels_in m) k) (go (slice_get (labels_in m) k))
+  no_atom_answer small zero k i h = rw (slice_get-map (idle_edge a) (labels_in m) k) (go (slice_get (labels_in m) k))
     where
       go : (o : Option ℕ) → None ≡ atom_of (option_map (idle_edge a) o) i
       go None = refl
       go (Some x) = refl
-  no_atom_answer small (suc zero) k i h = rw (nth_map (armed_edge b c) (labels_in m) k) (go i (slice_get (labels_in m) k) refl (h refl))
+  no_atom_answer small (suc zero) k i h = rw (slice_get-map (armed_edge b c) (labels_in m) k) (go i (slice_get (labels_in m) k) refl (h refl))
     where
       go : (i : ℕ) (o : Option ℕ) → slice_get (labels_in m) k ≡ o → (k < count_ones m → i ≢ 0) → None ≡ atom_of (option_map (armed_edge b c) o) i
       go i None e h = refl
       go (suc i) (Some x) e h = refl
-      go zero (Some x) e h = absurd (h (subst (λ n. k < n) (length-labels m small) (nth_inside (labels_in m) k x e)) refl)
+      go zero (Some x) e h = absurd (h (subst (λ n. k < n) (length-labels m small) (slice_get_within (labels_in m) k x e)) refl)
   no_atom_answer small (suc (suc l)) k i h = refl

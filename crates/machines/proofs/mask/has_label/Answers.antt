@@ -1,11 +1,7 @@
-use Rattle.std.proofs.Common.{◌/◌, ◌^◌, eqb, sym, ap, arith, ne_eqb}
-use lib.Bits.{and_mask}
+use Rattle.std.proofs.Common.{sym, arith, ne_eqb}
 use Rattle.machines.specs.Automaton.{bit}
 use Rattle.machines.specs.Laws.Masks.{bit_below}
 use Rattle.machines.proofs.mask.has_label.Goals as goal
-
-pub returns : goal.returns
-returns c = ap (λ n. eqb n 1) (and_mask (c.args.mask / 2 ^ c.args.label) 1)
 
 pub returns-then-label-gt31 : goal.returns-then-label-gt31
 returns-then-label-gt31 c =

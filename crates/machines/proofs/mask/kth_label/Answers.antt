@@ -1,4 +1,4 @@
-use Rattle.std.proofs.Common.{◌≡◌, sym, refl, ap, ◌∙◌, arith}
+use Rattle.std.proofs.Common.{◌≡◌, sym, ap, ◌∙◌, arith}
 use Rattle.std.proofs.lemmas.Option.{slice_get_past}
 use Rattle.std.specs.List.{slice_get}
 use Rattle.machines.specs.Deadline.{labels_in}
@@ -7,9 +7,6 @@ use Rattle.machines.proofs.mask.kth_label.Goals as goal
 
 pub returns-then-k-count : goal.returns-then-k-count
 returns-then-k-count c = sym (slice_get_past (labels_in c.args.mask) c.args.k (omega (arith, length-labels c.args.mask c.ranges.mask.fits)))
-
-pub loop-init : goal.loop-init
-loop-init c = record { below = c.ranges.mask.fits; left = refl }
 
 pub overflow_sub-rest : goal.overflow_sub-rest
 overflow_sub-rest c = some_left c.ranges.mask.fits (omega arith) c.loop.invariant
