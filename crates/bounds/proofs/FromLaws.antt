@@ -1,14 +1,12 @@
 -- What follows from the laws for every reading.
 use Rattle.std.proofs.Common.{◌≡◌, ℕ, ◌+◌, ◌<◌, ◌≤◌, Bool, true, false, [], ◌∷◌, ℤ, pos, ◌+ℤ◌, ◌-ℤ◌, ◌*ℤ◌, neg_ℤ, nat_abs, ◌≤ℤ◌, ◌<ℤ◌, Option, sym, refl, ap, ◌∙◌, ⊎_elim, mul-le-mul_right, arith}
 use borrow.Author.Differences.{up, down}
+use Rattle.std.proofs.Math.IntN.{zero-*ℤ}
 use Rattle.std.proofs.lemmas.Int.{ints, by_lt_z}
 use Rattle.std.proofs.lemmas.Bool.{cases_lt, cases_Bool, both_ways, and_parts}
 use Rattle.bounds.specs.Keeps.{Keeps, Grid, Made, limit}
 use Rattle.bounds.specs.Laws.{Laws}
 use Rattle.bounds.specs.Facts.{BelowZero, OppositeNumber, Room, NoRoom}
-
-no_times : (N : ℕ) → pos 0 *ℤ pos N ≡ pos 0
-no_times N = omega (arith, ints)
 
 -- c × N and c × N − 1 have one sign at all grids
 sign_most : (c : ℤ) (N M : ℕ) → 0 < N → pos 0 ≤ℤ (c *ℤ pos N) → pos 0 ≤ℤ (c *ℤ pos M)
@@ -30,7 +28,7 @@ module _ {C : Type 0} {leq : C → C → Bool} {sum : C → C → C} {zero : C} 
   zero_limited = ap limited K.fourth.zero_made ∙ K.bounds.most_limited (pos 0) (omega arith)
 
   pub zero_greatest : (N : ℕ) → Grid Counts N → greatest zero N ≡ pos 0
-  zero_greatest N g = ap (λ z. greatest z N) K.fourth.zero_made ∙ (K.second (pos 0) (omega arith) N g).0 ∙ no_times N
+  zero_greatest N g = ap (λ z. greatest z N) K.fourth.zero_made ∙ (K.second (pos 0) (omega arith) N g).0 ∙ zero-*ℤ (pos N)
 
   -- no limit is below nothing
   pub not_free : (b : C) → weight b ≤ limit → (a : C) → weight a ≤ limit → leq a b ≡ false → limited b ≡ true

@@ -5,9 +5,11 @@ ghost use Rattle.std.specs.Prelude.{◌≡◌, ℕ, ◌+◌, ◌≤◌, Bool, tr
 ghost use Rattle.bounds.specs.Laws.{Laws};
 ghost use Rattle.bounds.specs.Keeps.{Keeps, limit, in_four_bytes};
 
+pub mod bound;
 pub mod dense;
 pub mod facts;
 pub mod numbers;
+pub mod scale;
 pub mod tick;
 pub mod worked;
 

@@ -21,9 +21,5 @@ pub fn taken(x: i64, y: i64) -> i64
 pub fn narrowed(x: i64) -> Option<i32>
     ensures { result ≡ in_four_bytes x }
 {
-    if x < -2_147_483_648 || x > 2_147_483_647 {
-        None
-    } else {
-        Some(x as i32)
-    }
+    i32::try_from(x).ok()
 }

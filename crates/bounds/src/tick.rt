@@ -1,54 +1,21 @@
 // The reading under which grid 1 alone counts.
-ghost use Rattle.bounds.specs.Tick.{tick_counts, tick_leq, tick_sum, tick_zero, tick_weight, tick_limited, tick_greatest, tick_most, tick_below, tick_free, tick_opposite, tick_code, tick_read};
-ghost use Rattle.bounds.specs.TickLaws.{tick_laws};
-ghost use Rattle.bounds.specs.TickKeeps.{tick_keeps};
+ghost use Rattle.bounds.specs.Tick.{tick_counts, tick_weight, tick_greatest, tick_most, tick_below, tick_sum, tick_opposite};
+ghost use Rattle.bounds.specs.TickScale.{tick_scale};
 
-use crate::numbers::{FREE, added, narrowed, taken};
-use crate::{Cell, Reading};
+use crate::bound::Bound;
+use crate::numbers::{added, taken};
+use crate::scale::Scale;
 
+// A code is the number of ticks that are not passed.
 #[derive(Clone, Copy)]
-pub enum Tick {
-    // At most so many ticks.
-    Limit(i64),
-    Free,
-}
+pub struct TickScale;
 
-impl Cell for Tick {
-    ghost leq = { tick_leq };
+pub type Tick = Bound<TickScale>;
 
-    ghost sum = { tick_sum };
-
-    ghost zero = { tick_zero };
-
-    ghost weight = { tick_weight };
-
-    ghost lawful = { tick_laws };
-
-    fn neutral() -> Tick {
-        Tick::Limit(0)
-    }
-
-    fn not_above(&self, other: &Tick) -> bool {
-        match (*self, *other) {
-            (Tick::Limit(x), Tick::Limit(y)) => x <= y,
-            (Tick::Limit(_), Tick::Free) => true,
-            (Tick::Free, Tick::Limit(_)) => false,
-            (Tick::Free, Tick::Free) => true,
-        }
-    }
-
-    fn plus(self, other: Tick) -> Tick {
-        match (self, other) {
-            (Tick::Limit(x), Tick::Limit(y)) => Tick::Limit(added(x, y)),
-            _ => Tick::Free,
-        }
-    }
-}
-
-impl Reading for Tick {
+impl Scale for TickScale {
     ghost Counts = { tick_counts };
 
-    ghost limited = { tick_limited };
+    ghost weight = { tick_weight };
 
     ghost greatest = { tick_greatest };
 
@@ -56,57 +23,25 @@ impl Reading for Tick {
 
     ghost below = { tick_below };
 
-    ghost free = { tick_free };
+    ghost sum = { tick_sum };
 
     ghost opposite = { tick_opposite };
 
-    ghost code = { tick_code };
+    ghost keeps = { tick_scale };
 
-    ghost read = { tick_read };
-
-    ghost keeps = { tick_keeps };
-
-    fn at_most(c: i64) -> Tick {
-        Tick::Limit(c)
+    fn at_most(c: i64) -> i64 {
+        c
     }
 
-    fn under(c: i64) -> Tick {
-        Tick::Limit(taken(c, 1))
+    fn under(c: i64) -> i64 {
+        taken(c, 1)
     }
 
-    fn unlimited() -> Tick {
-        Tick::Free
+    fn plus(x: i64, y: i64) -> i64 {
+        added(x, y)
     }
 
-    fn is_limited(&self) -> bool {
-        match *self {
-            Tick::Limit(_) => true,
-            Tick::Free => false,
-        }
-    }
-
-    fn opposed(self) -> Tick {
-        match self {
-            Tick::Limit(x) => Tick::Limit(taken(-1, x)),
-            Tick::Free => Tick::Free,
-        }
-    }
-
-    // From below −1,000,000 to at most 1,000,000.
-    fn decoded(z: i32) -> Option<Tick> {
-        if z == FREE {
-            return Some(Tick::Free);
-        }
-        if z < -1_000_001 || z > 1_000_000 {
-            return None;
-        }
-        Some(Tick::Limit(i64::from(z)))
-    }
-
-    fn coded(&self) -> Option<i32> {
-        match *self {
-            Tick::Limit(x) => narrowed(x),
-            Tick::Free => Some(FREE),
-        }
+    fn opposed(x: i64) -> i64 {
+        taken(-1, x)
     }
 }

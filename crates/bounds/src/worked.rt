@@ -9,14 +9,14 @@ use crate::{Cell, Reading};
 pub fn seven_plus_four() -> Option<i32>
     ensures { result ≡ Some (pos 10) }
 {
-    Dense::Limit(7).plus(Dense::Limit(4)).coded()
+    Dense::of_code(7).plus(Dense::of_code(4)).coded()
 }
 
 // The opposite of at most 3 is below −3.
 pub fn opposite_of_seven() -> Option<i32>
     ensures { result ≡ Some (negsuc 5) }
 {
-    Dense::Limit(7).opposed().coded()
+    Dense::of_code(7).opposed().coded()
 }
 
 // Below −1,000,000 and at most 1,000,000 under the dense reading.

@@ -1,3 +1,2 @@
 pub mod HalfTicks
-pub mod HalfLaws
-pub mod HalfKeeps
+pub mod HalfTickScale

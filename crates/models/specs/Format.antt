@@ -1,5 +1,6 @@
 -- The format of a model file: which files are lawful, and with which refusal each other file is met.
 use Rattle.std.specs.Prelude.{◌≡◌, ℕ, zero, suc, ◌+◌, ◌*◌, ◌^◌, ◌<◌, ◌≤◌, Bool, true, false, cond, ◌&&◌, List, length, is_ok, Ok, Err, Result, ◌==◌, nat_le, nat_lt}
+use Rattle.std.specs.List.{list_all, range_with_len}
 use Rattle.machines.specs.declared.refusal.Refusal.{Refusal}
 use Rattle.machines.specs.declared.refusal.Refusal.TheVariants.{Frame, Kind, Shape, Range, Missing, Order}
 use Rattle.models.specs.Numbers.{byte, two_bytes, four_bytes}
@@ -94,60 +95,59 @@ pub record LawfulFile (bs : List ℕ) : Type 0 where
 -- ---- the tests of a record, each under the number of its refusal
 
 -- 1: four bytes are left for the record, and it is 4 bytes or more and ends within the file
-unfoldable pub framed : List ℕ → ℕ → Bool
+abbrev pub framed : List ℕ → ℕ → Bool
 framed bs at = nat_le (at + 4) (length bs) && nat_le 4 (size_of bs at) && nat_le (at + size_of bs at) (length bs)
 
 -- of the head
 
 -- 2: it is a head
-unfoldable pub head_has_kind : List ℕ → Bool
+abbrev pub head_has_kind : List ℕ → Bool
 head_has_kind bs = kind_of bs 0 == 1
 
 -- 3: its length is 8, and its spare byte is zero
-unfoldable pub head_has_shape : List ℕ → Bool
+abbrev pub head_has_shape : List ℕ → Bool
 head_has_shape bs = size_of bs 0 == 8 && byte bs 7 == 0
 
 -- 4: there are 1 to 256 locations and at most 4 clocks
-unfoldable pub head_in_range : List ℕ → Bool
+abbrev pub head_in_range : List ℕ → Bool
 head_in_range bs = nat_le 1 (locations_of bs) && nat_le (locations_of bs) 256 && nat_le (clocks_of bs) 4
 
 -- of an edge, with its atoms
 
 -- the test holds of each of the first n atoms of the edge at a place
 abbrev pub each_atom : (List ℕ → ℕ → Bool) → List ℕ → ℕ → ℕ → Bool
-each_atom test bs at zero = true
-each_atom test bs at (suc n) = test bs (place_of_atom at n) && each_atom test bs at n
+each_atom test bs at n = list_all (λ i. test bs (place_of_atom at i)) (range_with_len 0 n)
 
 -- 2: it is an edge, and there is room for one
-unfoldable pub edge_has_kind : List ℕ → ℕ → ℕ → Bool
+abbrev pub edge_has_kind : List ℕ → ℕ → ℕ → Bool
 edge_has_kind bs at room = kind_of bs at == 2 && nat_lt 0 room
 
 -- 3: its length fits its count, which that of a record too short for a count never does, and its spare bytes are zero
-unfoldable pub atom_has_shape : List ℕ → ℕ → Bool
+abbrev pub atom_has_shape : List ℕ → ℕ → Bool
 atom_has_shape bs p = two_bytes bs (p + 2) == 0
 
-unfoldable pub edge_has_shape : List ℕ → ℕ → Bool
+abbrev pub edge_has_shape : List ℕ → ℕ → Bool
 edge_has_shape bs at =
     (size_of bs at == 12 + 8 * count_of bs at) && byte bs (at + 11) == 0 && each_atom atom_has_shape bs at (count_of bs at)
 
 -- 4: its label is at most 31, it has at most 4 atoms, and each compares by 0 to 3 with at most 100,000
-unfoldable pub atom_in_range : List ℕ → ℕ → Bool
+abbrev pub atom_in_range : List ℕ → ℕ → Bool
 atom_in_range bs p = nat_le (comparison_of bs p) 3 && nat_le (constant_of bs p) 100000
 
-unfoldable pub edge_in_range : List ℕ → ℕ → Bool
+abbrev pub edge_in_range : List ℕ → ℕ → Bool
 edge_in_range bs at = nat_le (label_of bs at) 31 && nat_le (count_of bs at) 4 && each_atom atom_in_range bs at (count_of bs at)
 
 -- 5: there are the locations, the clocks that it resets, and the clock of each atom
-unfoldable pub atom_is_known : List ℕ → ℕ → Bool
+abbrev pub atom_is_known : List ℕ → ℕ → Bool
 atom_is_known bs p = nat_lt (clock_of bs p) (clocks_of bs)
 
-unfoldable pub edge_is_known : List ℕ → ℕ → Bool
+abbrev pub edge_is_known : List ℕ → ℕ → Bool
 edge_is_known bs at =
     nat_lt (from_of bs at) (locations_of bs) && nat_lt (to_of bs at) (locations_of bs) && nat_lt (resets_of bs at) (2 ^ clocks_of bs)
     && each_atom atom_is_known bs at (count_of bs at)
 
 -- 6: it leaves no location below the one that the edge before it leaves
-unfoldable pub edge_order : List ℕ → ℕ → ℕ → Bool
+abbrev pub edge_order : List ℕ → ℕ → ℕ → Bool
 edge_order bs at previous = nat_le previous (from_of bs at)
 
 -- ---- the tests in their order

@@ -1,5 +1,4 @@
 pub mod Atoms
-pub mod Bytes
 pub mod Files
 pub mod Index
 pub mod Models

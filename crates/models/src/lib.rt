@@ -2,7 +2,7 @@
 #![tactic(auto)]
 
 mod check;
-mod index;
-mod layout;
+mod edges;
 pub mod numbers;
+mod record;
 pub mod table;

@@ -1,129 +1,142 @@
 // A model over the bytes of its file, which are lent and never copied.
-ghost use Rattle.std.specs.Prelude.{◌≡◌, ◌<◌, ◌≤◌, true, length, IfSome, is_ok, if◌then◌else◌, Decides, ◌≢◌};
+ghost use Rattle.std.specs.Prelude.{◌≡◌, true, length, Some, None, Err, IfSome, MatchOption, MatchResult, is_ok, if◌then◌else◌, Decides, ◌≢◌};
 ghost use Rattle.std.specs.List.{slice_get};
 ghost use Rattle.machines.specs.Automaton.{bare};
-ghost use Rattle.models.specs.Format.{LawfulFile, verdict, Accepted};
-ghost use Rattle.models.specs.Model.{places_of, places_at, model};
-ghost use Rattle.models.specs.Index.{Indexed};
+ghost use Rattle.models.specs.Format.{locations_of, LawfulFile, verdict};
+ghost use Rattle.models.specs.Model.{places_of, places_at, widest, labels_of, model};
 ghost use Rattle.models.specs.Laws.Models.{model_lawful};
 
 use crate::check::check_file;
-use crate::index::Index;
-use crate::layout::*;
-use crate::numbers::{byte_at, u16_at, u32_at};
+use crate::edges::Edges;
+use crate::record::Record;
+use machines::atom::Atom;
+use machines::comparison::Comparison;
 use machines::machine::Machine;
 use machines::refusal::Refusal;
 
 // The head alone: one location, no clock and no edge.
 static BARE: [u8; 8] = [8, 0, 1, 0, 1, 0, 0, 0];
 
-// The file is accepted, so no edge is to a location or on a clock that there is not; the index is the file's.
+// The file is accepted, so no edge is to a location or on a clock that there is not.
 #[derive(Drop)]
 pub struct Table<'a> {
-    bytes: &'a [u8],
-    index: Index,
-    ghost accepted: { Accepted bytes.now },
-    ghost indexed: { Indexed bytes.now index },
+    edges: Edges<'a>,
+    width: u32,
+    labels: u32,
+    ghost widest: { width ≡ widest edges.bytes.now (locations_of edges.bytes.now) },
+    ghost listed: { labels ≡ labels_of edges.bytes.now },
 }
 
 impl<'a> Table<'a> {
     // One location, no clock and no edge.
     pub fn bare() -> Table<'a>
-        ensures { model result.bytes.now ≡ bare }
+        ensures { model result.edges.bytes.now ≡ bare }
     {
-        Table {
-            bytes: &BARE,
-            index: Index::of(&BARE),
-        }
+        Table::read(&BARE).unwrap()
+    }
+
+    // The table of the file, or why it is refused.
+    pub fn read(file: &'a [u8]) -> Result<Table<'a>, Refusal>
+        ensures answer { MatchResult result (λ t. t.edges.bytes.now ≡ file.now) (λ e. verdict file.now ≡ Err e) }
+        ensures lawful { Decides (is_ok result) (LawfulFile file.now) }
+    {
+        let edges = check_file(file)?;
+        let width = edges.width();
+        let labels = edges.labels();
+        Ok(Table {
+            edges,
+            width,
+            labels,
+        })
     }
 
     // Takes the file in the place of the table's bytes, or refuses it and leaves the table as it was.
     pub fn load(&mut self, file: &'a [u8]) -> Result<(), Refusal>
         ensures answer { result ≡ verdict file.now }
         ensures lawful { Decides (is_ok result) (LawfulFile file.now) }
-        ensures after { self.new.bytes.now ≡ (if is_ok result then file.now else self.old.bytes.now) }
+        ensures after { self.new.edges.bytes.now ≡ (if is_ok result then file.now else self.old.edges.bytes.now) }
         ensures kept { (is_ok result ≢ true) → self.new ≡ self.old }
     {
-        check_file(file)?;
-        let index = Index::of(file);
-        *self = Table { bytes: file, index };
+        *self = Table::read(file)?;
         Ok(())
     }
 
     // How many edges there are.
     pub fn edges(&self) -> u32
-        ensures { result ≡ length (places_of self.now.bytes.now) }
+        ensures { result ≡ length (places_of self.now.edges.bytes.now) }
     {
-        self.index.edges
+        self.edges.places.len() as u32
     }
 
-    // The place of the k-th edge that leaves `location`.
-    fn place(&self, location: u32, k: u32) -> Option<usize>
-        ensures place { result ≡ slice_get (places_at self.now.bytes.now location) k }
-        ensures within { IfSome result (λ at. at ≤ 65536) }
+    fn head(&self) -> Record<'a>
+        ensures { result.bytes.now ≡ self.now.edges.bytes.now }
     {
-        // No file has more locations than that.
-        if location >= 256 {
-            return None;
+        Record {
+            bytes: self.edges.bytes,
+            at: 0,
         }
-        let l = location as usize;
-        let low = self.index.first[l] as u32;
-        let high = self.index.first[l + 1] as u32;
-        if k >= high - low {
-            return None;
-        }
-        Some(self.index.places[(low + k) as usize] as usize)
+    }
+
+    // The k-th edge that leaves `location`.
+    fn edge(&self, location: u32, k: u32) -> Option<Record<'a>>
+        ensures { MatchOption result (slice_get (places_at self.now.edges.bytes.now location) k ≡ None) (λ edge. (edge.bytes.now ≡ self.now.edges.bytes.now) × (slice_get (places_at self.now.edges.bytes.now location) k ≡ Some edge.at)) }
+    {
+        let at = *self.edges.leaving(location).get(k as usize)?;
+        Some(Record {
+            bytes: self.edges.bytes,
+            at,
+        })
     }
 }
 
 impl<'a> Machine for Table<'a> {
-    ghost meaning = { λ t. model t.bytes.now };
+    ghost meaning = { λ t. model t.edges.bytes.now };
 
-    ghost lawful = { λ t. model_lawful t.bytes.now t.accepted };
+    ghost lawful = { λ t. model_lawful t.edges.bytes.now t.edges.accepted };
 
     fn locations(&self) -> u32 {
-        u16_at(self.bytes, LOCATIONS) as u32
+        self.head().locations() as u32
     }
 
     fn clocks(&self) -> u8 {
-        byte_at(self.bytes, CLOCKS)
+        self.head().clocks()
     }
 
     fn width(&self) -> u32 {
-        self.index.width
+        self.width
     }
 
     fn labels(&self) -> u32 {
-        self.index.labels
+        self.labels
     }
 
     fn edge_count(&self, location: u32) -> Option<u32> {
         if location >= self.locations() {
             return None;
         }
-        let l = location as usize;
-        Some((self.index.first[l + 1] - self.index.first[l]) as u32)
+        Some(self.edges.count(location))
     }
 
     fn edge_head(&self, location: u32, k: u32) -> Option<(u8, u32, u8, u32)> {
-        let at = self.place(location, k)?;
-        let label = byte_at(self.bytes, at + LABEL);
-        let target = u16_at(self.bytes, at + TO) as u32;
-        let resets = byte_at(self.bytes, at + RESETS);
-        let atoms = byte_at(self.bytes, at + COUNT) as u32;
-        Some((label, target, resets, atoms))
+        let edge = self.edge(location, k)?;
+        Some((
+            edge.label(),
+            edge.to() as u32,
+            edge.resets(),
+            edge.count() as u32,
+        ))
     }
 
-    fn atom(&self, location: u32, k: u32, i: u32) -> Option<(u8, u8, u32)> {
-        let at = self.place(location, k)?;
-        let atoms = byte_at(self.bytes, at + COUNT) as u32;
-        if i >= atoms {
+    fn atom(&self, location: u32, k: u32, i: u32) -> Option<Atom> {
+        let edge = self.edge(location, k)?;
+        if i >= edge.count() as u32 {
             return None;
         }
-        let place = atom_place(at, i as u8);
-        let clock = byte_at(self.bytes, place);
-        let comparison = byte_at(self.bytes, place + COMPARISON);
-        let constant = u32_at(self.bytes, place + CONSTANT);
-        Some((clock, comparison, constant))
+        let record = edge.atom(i as u8);
+        Some(Atom {
+            clock: record.clock(),
+            comparison: Comparison::from(record.comparison()),
+            constant: record.constant(),
+        })
     }
 }

@@ -1,7 +1,7 @@
+pub mod Chosen
 pub mod EdgeReads
 pub mod Heads
 pub mod Joints
-pub mod Masks
 pub mod Pairs
 pub mod PartLaws
 pub mod StepLaws

@@ -1,3 +1,4 @@
+pub mod Numbers
 pub mod PairSteps
 pub mod Parts
 pub mod Product

@@ -1,7 +1,7 @@
 // The product of two machines.
 #![tactic(auto)]
 
-mod edges;
 pub mod pair;
 mod part;
-mod parts;
+mod place;
+mod site;

@@ -1,5 +1,6 @@
-mod Hexes
+pub mod Decodes
 mod Numerals
+pub mod Places
 mod Spellings
 mod Steps
-mod Words
+pub mod Words

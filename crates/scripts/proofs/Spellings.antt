@@ -1,54 +1,35 @@
--- Statements and the words that spell them.
-use Rattle.std.proofs.Common.{◌≡◌, ℕ, zero, suc, ◌<◌, ◌≤◌, List, [], ◌∷◌, map, length, get_or, Err, codes, Result, sym, refl, ap, ◌∙◌, subst, inl, inr, arith, Bor}
+-- A deadline with a word that is no number.
+use Rattle.std.proofs.Common.{◌≡◌, ℕ, ◌+◌, ◌-◌, ◌<◌, ◌≤◌, List, [], map, length, get_or, take, drop, Result, Bor, inl, ap, sym, subst, ◌∙◌, arith}
+use Rattle.std.proofs.lemmas.List.{get_or-map, get_or-drop, take_rest}
+use Rattle.std.proofs.lemmas.Result.{err_from_is_err_and}
+use Rattle.std.specs.Result.{IsErrAnd}
 use Rattle.scripts.specs.declared.fault.Fault.{Fault}
 use Rattle.scripts.specs.declared.fault.Fault.TheVariants.{Number}
+use Rattle.scripts.specs.declared.statement.Keyword.{Keyword}
+use Rattle.scripts.specs.declared.statement.Keyword.TheVariants.{Deadline}
 use Rattle.scripts.specs.declared.statement.Statement.{Statement}
-use Rattle.scripts.specs.Numbers.{Writes, Written}
-use Rattle.scripts.specs.Spelling.{word_at, Read, Faulty}
+use Rattle.scripts.specs.Numbers.{Written}
+use Rattle.scripts.specs.Spelling.{spelling, word_at, Read}
 
 -- what stands past the last word
-abbrev pub none : Bor (List ℕ)
+abbrev none : Bor (List ℕ)
 none = record { ref_ptr = (0, 0); now = [] }
 
--- the text of word i
-abbrev pub text : List (Bor (List ℕ)) → ℕ → List ℕ
-text ws i = (get_or ws i none).now
+-- word k of those after the first
+abbrev pub later : List (Bor (List ℕ)) → ℕ → List ℕ
+later ws k = (get_or (take (length ws - 1) (drop 1 ws)) k none).now
 
-pub word_is : (ws : List (Bor (List ℕ))) (i : ℕ) → word_at (map (λ x. x.now) ws) i ≡ text ws i
-word_is [] i = refl
-word_is (w ∷ ws) zero = refl
-word_is (w ∷ ws) (suc i) = word_is ws i
+later_is : (ws : List (Bor (List ℕ))) (k : ℕ) → 1 + k < length ws → word_at (map (λ x. x.now) ws) (1 + k) ≡ later ws k
+later_is ws k within = get_or-map (λ x. x.now) ws (1 + k) none [] within ∙ ap (λ x. x.now) (sym (get_or-drop 1 ws k none)) ∙ ap (λ xs. (get_or xs k none).now) (sym (take_rest ws 1))
 
-pub as_none : (ws : List (Bor (List ℕ))) → length ws ≡ 0 → map (λ x. x.now) ws ≡ []
-as_none [] e = refl
-as_none (a ∷ ws) e = absurd (omega arith)
-
-pub as_two : (ws : List (Bor (List ℕ))) → length ws ≡ 2 → map (λ x. x.now) ws ≡ text ws 0 ∷ text ws 1 ∷ []
-as_two [] e = absurd (omega arith)
-as_two (a ∷ []) e = absurd (omega arith)
-as_two (a ∷ b ∷ []) e = refl
-as_two (a ∷ b ∷ c ∷ ws) e = absurd (omega arith)
-
-pub as_three : (ws : List (Bor (List ℕ))) → length ws ≡ 3 → map (λ x. x.now) ws ≡ text ws 0 ∷ text ws 1 ∷ text ws 2 ∷ []
-as_three [] e = absurd (omega arith)
-as_three (a ∷ ws) e = ap (λ t. a.now ∷ t) (as_two ws (omega arith))
-
-pub as_four : (ws : List (Bor (List ℕ))) → length ws ≡ 4 → map (λ x. x.now) ws ≡ text ws 0 ∷ text ws 1 ∷ text ws 2 ∷ text ws 3 ∷ []
-as_four [] e = absurd (omega arith)
-as_four (a ∷ ws) e = ap (λ t. a.now ∷ t) (as_three ws (omega arith))
-
--- a word of a deadline that is no number
-pub no_number : (ws : List (Bor (List ℕ))) (i : ℕ) (r : Result Statement Fault) (y e : Fault) → word_at (map (λ x. x.now) ws) 0 ≡ codes "deadline" → 2 ≤ i → i < 6
-    → r ≡ Err y → y ≡ e → (e ≡ Number) × (Written (text ws i) → ⊥) → Read (map (λ x. x.now) ws) r
-no_number ws i r y e first low high is same told =
-    let why : Faulty Number (map (λ x. x.now) ws) = inl (first, i, low, high, λ h. told.1 (subst Written (word_is ws i) h)) in
-    subst (Read (map (λ x. x.now) ws)) (sym (is ∙ ap Err (same ∙ told.0))) why
-
--- a grid that is no number
-pub no_grid : (ws : List (Bor (List ℕ))) (r : Result Statement Fault) (y e : Fault) → word_at (map (λ x. x.now) ws) 0 ≡ codes "replay" → r ≡ Err y → y ≡ e → (e ≡ Number) × (Written (text ws 2) → ⊥) → Read (map (λ x. x.now) ws) r
-no_grid ws r y e first is same told =
-    let why : Faulty Number (map (λ x. x.now) ws) = inr (first, λ h. told.1 (subst Written (word_is ws 2) h)) in
-    subst (Read (map (λ x. x.now) ws)) (sym (is ∙ ap Err (same ∙ told.0))) why
-
-pub writes : (ws : List (Bor (List ℕ))) (i n : ℕ) → Writes (text ws i) n → Writes (word_at (map (λ x. x.now) ws) i) n
-writes ws i n h = subst (λ w. Writes w n) (sym (word_is ws i)) h
+pub no_number : (ws : List (Bor (List ℕ))) (k : ℕ) (r : Result Statement Fault) (e : Fault) (first : Keyword) → 1 ≤ k → k < 5 → 1 + k < length ws → (get_or ws 0 none).now ≡ spelling first → first ≡ Deadline
+    → IsErrAnd r (λ y. y ≡ e) → (e ≡ Number) × (Written (later ws k) → ⊥) → Read (map (λ x. x.now) ws) r
+no_number ws k r e first low high within is same refused told =
+    let p = err_from_is_err_and r refused in
+    rw (p.1, p.2, told.0) (inl (
+      get_or-map (λ x. x.now) ws 0 none [] (omega arith) ∙ is ∙ ap spelling same,
+      1 + k,
+      omega arith,
+      omega arith,
+      λ written. told.1 (subst Written (later_is ws k within) written),
+    ))

@@ -1,72 +1,55 @@
--- The words of a text, one by one.
-use Rattle.std.proofs.Common.{◌≡◌, ℕ, zero, suc, ◌+◌, ◌<◌, ◌≤◌, Bool, true, false, cond, not, List, [], ◌∷◌, ◌++◌, map, length, get_or, drop, sym, refl, ap, ◌∙◌, subst, ap₂, append_assoc, append-nil, one-add, arith, length-drop, Bor, eq-eqb, ne_eqb}
-use Rattle.std.proofs.lemmas.List.{map-append}
-use Rattle.std.specs.List.{prefix_len}
-use Rattle.scripts.specs.declared.text.Run.TheVariants.{Blanks, Word}
-use Rattle.scripts.specs.Lines.{blank, goes_on, front, past, code_of, words_by, words_of}
+-- The words of a text: the first, and those after it.
+use Rattle.std.proofs.Common.{◌≡◌, ℕ, zero, suc, ◌+◌, ◌<◌, ◌≤◌, Bool, true, false, not, ◌==◌, List, [], ◌∷◌, length, take, drop, filter, Option, Some, None, MatchOption, Bor, sym, refl, ap, ◌∙◌, arith, one-add, ne_eqb}
+use Rattle.std.proofs.lemmas.Bool.{cond-true}
+use Rattle.std.proofs.lemmas.List.Folds.{length-prefix_len}
+use Rattle.std.proofs.lemmas.List.{nil_from_length}
+use Rattle.std.specs.List.{prefix_len, slice_split, onto_first}
+use Rattle.scripts.specs.Lines.{blank, in_word, front, past, NextWord, words_in}
 
--- a run has a byte where the first byte goes on with it
-first_on : (p : ℕ → Bool) (xs : List ℕ) → 0 < length xs → p (get_or xs 0 0) ≡ true → 0 < prefix_len p xs
-first_on p [] some on = absurd (omega arith)
-first_on p (x ∷ xs) some on = rw on (omega arith)
-
--- the byte after a run does not go on with it
-stops : (p : ℕ → Bool) (xs : List ℕ) → 0 < length (drop (prefix_len p xs) xs) → p (get_or (drop (prefix_len p xs) xs) 0 0) ≡ false
-stops p [] some = absurd (omega arith)
-stops p (x ∷ xs) some = go (p x) refl some (stops p xs)
+-- a run of blanks, by the test that the code makes
+pub blanks_length : (bs : List ℕ) → prefix_len (λ b. not (in_word b)) bs ≡ prefix_len blank bs
+blanks_length [] = refl
+blanks_length (x ∷ xs) = go (blank x) refl (blanks_length xs)
   where
-    go : (b : Bool) → p x ≡ b → 0 < length (drop (cond b (1 + prefix_len p xs) 0) (x ∷ xs)) → (0 < length (drop (prefix_len p xs) xs) → p (get_or (drop (prefix_len p xs) xs) 0 0) ≡ false)
-        → p (get_or (drop (cond b (1 + prefix_len p xs) 0) (x ∷ xs)) 0 0) ≡ false
-    go false e some ih = e
-    go true e some ih =
-        let up = one-add (prefix_len p xs) in
-        subst (λ n. p (get_or (drop n (x ∷ xs)) 0 0) ≡ false) (sym up) (ih (subst (λ n. 0 < length (drop n (x ∷ xs))) up some))
+    go : (b : Bool) → blank x ≡ b → prefix_len (λ c. not (in_word c)) xs ≡ prefix_len blank xs → prefix_len (λ c. not (in_word c)) (x ∷ xs) ≡ prefix_len blank (x ∷ xs)
+    go true e ih = rw e (ap (λ n. 1 + n) ih)
+    go false e ih = rw e refl
+
+-- blanks before the words make none
+words_past : (bs : List ℕ) → words_in (past blank bs) ≡ words_in bs
+words_past [] = refl
+words_past (x ∷ xs) = go (blank x) refl (words_past xs)
+  where
+    go : (b : Bool) → blank x ≡ b → words_in (past blank xs) ≡ words_in xs → words_in (past blank (x ∷ xs)) ≡ words_in (x ∷ xs)
+    go true e ih = rw (e, one-add) ih
+    go false e ih = rw (e, e) refl
 
 -- a word is not empty
-pub word_some : (bs : List ℕ) → 0 < length (past Blanks bs) → 0 < prefix_len (goes_on Word) (past Blanks bs)
-word_some bs some = first_on (goes_on Word) (past Blanks bs) some (ap not (stops blank bs some))
-
-pub falls : (bs : List ℕ) → 0 < length (past Blanks bs) → length (past Word (past Blanks bs)) < length bs
-falls bs some =
-    omega (arith, word_some bs some, length-drop (prefix_len (goes_on Word) (past Blanks bs)) (past Blanks bs), length-drop (prefix_len blank bs) bs)
-
--- no word is left of a blank text
-pub words_none : (n : ℕ) (bs : List ℕ) → length (past Blanks bs) ≡ 0 → words_by n bs ≡ []
-words_none zero bs none = refl
-words_none (suc n) bs none = rw (eq-eqb _ 0 none)
-
--- else the first word, and those after it
-pub words_one : (n : ℕ) (bs : List ℕ) → 0 < length (past Blanks bs) → words_by (suc n) bs ≡ front Word (past Blanks bs) ∷ words_by n (past Word (past Blanks bs))
-words_one n bs some = rw (ne_eqb (length (past Blanks bs)) 0 (λ e. omega arith))
-
--- the words found, and the text in which the others stand
-pub record Found (words : List (List ℕ)) (found : List (Bor (List ℕ))) (rest : List ℕ) : Type 0 where
-  pub more : ℕ
-  pub enough : length rest ≤ more
-  pub all : map (λ x. x.now) found ++ words_by more rest ≡ words
-
-pub found_none : (line rest : List ℕ) (found : List (Bor (List ℕ))) → found ≡ [] → rest ≡ code_of line → Found (words_of line) found rest
-unfolding words_of
-found_none line rest found none is = record {
-  more = length (code_of line);
-  enough = omega (arith, ap length is);
-  all = ap₂ (λ ws bs. map (λ x. x.now) ws ++ words_by (length (code_of line)) bs) none is;
-}
-
-pub found_all : (words : List (List ℕ)) (found : List (Bor (List ℕ))) (rest : List ℕ) → Found words found rest → length (past Blanks rest) ≡ 0 → map (λ x. x.now) found ≡ words
-found_all words found rest h none = sym (append-nil (map (λ x. x.now) found)) ∙ ap (λ ws. map (λ x. x.now) found ++ ws) (sym (words_none h.more rest none)) ∙ h.all
-
-pub found_more : (words : List (List ℕ)) (found : List (Bor (List ℕ))) (rest : List ℕ) (word : Bor (List ℕ)) (after : List ℕ) → Found words found rest → 0 < length (past Blanks rest) → word.now ≡ front Word (past Blanks rest) → after ≡ past Word (past Blanks rest)
-    → Found words (found ++ word ∷ []) after
-found_more words found rest word after h some is_word is_after = go h.more h.enough h.all
+word_some : (bs : List ℕ) → 0 < length (past blank bs) → 0 < prefix_len in_word (past blank bs)
+word_some [] some = absurd (omega arith)
+word_some (x ∷ xs) some = go (blank x) refl some (word_some xs)
   where
-    go : (n : ℕ) → length rest ≤ n → map (λ x. x.now) found ++ words_by n rest ≡ words → Found words (found ++ word ∷ []) after
-    go zero enough all = absurd (omega (arith, falls rest some))
-    go (suc n) enough all = record {
-      more = n;
-      enough = omega (arith, falls rest some, ap length is_after);
-      all = ap (λ ws. ws ++ words_by n after) (map-append (λ x. x.now) found (word ∷ []))
-          ∙ append_assoc (map (λ x. x.now) found) (word.now ∷ []) (words_by n after)
-          ∙ ap (λ ws. map (λ x. x.now) found ++ ws) (ap₂ (λ w bs. w ∷ words_by n bs) is_word is_after ∙ sym (words_one n rest some))
-          ∙ all;
-    }
+    go : (b : Bool) → blank x ≡ b → 0 < length (past blank (x ∷ xs)) → (0 < length (past blank xs) → 0 < prefix_len in_word (past blank xs)) → 0 < prefix_len in_word (past blank (x ∷ xs))
+    go true e some ih = rw (e, one-add) (ih (rw (e, one-add) at some))
+    go false e some ih = rw (e, e) (omega arith)
+
+-- the first part is the bytes before the first blank, and the others are those of what follows
+first_part : (bs : List ℕ) → (more : List (List ℕ)) × (slice_split blank bs ≡ front in_word bs ∷ more) × (filter (λ w. not (length w == 0)) more ≡ words_in (past in_word bs))
+first_part [] = ([], refl, refl)
+first_part (x ∷ xs) = go (blank x) refl (first_part xs)
+  where
+    go : (b : Bool) → blank x ≡ b → (more : List (List ℕ)) × (slice_split blank xs ≡ front in_word xs ∷ more) × (filter (λ w. not (length w == 0)) more ≡ words_in (past in_word xs))
+        → (more : List (List ℕ)) × (slice_split blank (x ∷ xs) ≡ front in_word (x ∷ xs) ∷ more) × (filter (λ w. not (length w == 0)) more ≡ words_in (past in_word (x ∷ xs)))
+    go true e ih = rw e (slice_split blank xs, refl, rw e refl)
+    go false e ih = rw (e, one-add) (ih.0, ap (onto_first x) ih.1, ih.2)
+
+words_first : (bs : List ℕ) → 0 < prefix_len in_word bs → words_in bs ≡ front in_word bs ∷ words_in (past in_word bs)
+words_first bs some =
+    let parts = first_part bs in
+    let kept : not (length (front in_word bs) == 0) ≡ true = ap not (ne_eqb (length (front in_word bs)) 0 (λ e. omega (arith, length-prefix_len in_word bs))) in
+    ap (filter (λ w. not (length w == 0))) parts.1 ∙ cond-true _ _ _ kept ∙ ap (λ ws. front in_word bs ∷ ws) parts.2
+
+-- the words of a text are the first and those of what follows it
+pub words_next : (bs : List ℕ) (r : Option (Bor (List ℕ) × Bor (List ℕ))) → NextWord bs r → MatchOption r (words_in bs ≡ []) (λ p. words_in bs ≡ p.0.now ∷ words_in p.1.now)
+words_next bs None none = sym (words_past bs) ∙ ap words_in (nil_from_length (past blank bs) none)
+words_next bs (Some p) next = rw (next.1, next.2) (sym (words_past bs) ∙ words_first (past blank bs) (word_some bs next.0))

@@ -1,43 +1,45 @@
--- The words of a line: its longest runs of bytes that are no blank.
-use Rattle.std.specs.Prelude.{◌≡◌, ℕ, zero, suc, ◌<◌, Bool, cond, not, ◌||◌, List, [], ◌∷◌, length, take, drop, Some, None, Option, ◌==◌}
+-- The words of a line: its parts between blanks.
+use Rattle.std.specs.Prelude.{◌≡◌, ℕ, ◌<◌, Bool, not, ◌||◌, List, length, take, drop, filter, Some, None, Option, ◌==◌}
 use Rattle.std.specs.Borrow.{Bor}
-use Rattle.std.specs.List.{prefix_len}
-use Rattle.scripts.specs.declared.text.Run.{Run}
-use Rattle.scripts.specs.declared.text.Run.TheVariants.{Blanks, Word, Code, Line, Delay}
+use Rattle.std.specs.List.{prefix_len, slice_split}
 
 -- a space, a tab or a carriage return
 abbrev pub blank : ℕ → Bool
 blank b = b == 32 || (b == 9 || b == 13)
 
--- whether a run goes on with a byte; 35 is '#', 10 a line feed and 58 a colon
-abbrev pub goes_on : Run → ℕ → Bool
-goes_on Blanks b = blank b
-goes_on Word b = not (blank b)
-goes_on Code b = not (b == 35)
-goes_on Line b = not (b == 10)
-goes_on Delay b = not (b == 58)
+-- any byte but these
+abbrev pub in_word : ℕ → Bool
+in_word b = not (blank b)
 
--- the run that a text begins with, and what follows it
-abbrev pub front : Run → List ℕ → List ℕ
-front run bs = take (prefix_len (goes_on run) bs) bs
+-- any byte but c
+abbrev pub other_than : ℕ → ℕ → Bool
+other_than c b = not (b == c)
 
-abbrev pub past : Run → List ℕ → List ℕ
-past run bs = drop (prefix_len (goes_on run) bs) bs
+-- the longest run of such bytes that a text begins with, and what follows it
+abbrev pub front : (ℕ → Bool) → List ℕ → List ℕ
+front p bs = take (prefix_len p bs) bs
 
--- what stands before a comment
+abbrev pub past : (ℕ → Bool) → List ℕ → List ℕ
+past p bs = drop (prefix_len p bs) bs
+
+-- what stands before and after the first byte c, or none where there is none
+abbrev pub SplitAt : ℕ → List ℕ → Option (Bor (List ℕ) × Bor (List ℕ)) → Type 0
+SplitAt c bs None = length (past (other_than c) bs) ≡ 0
+SplitAt c bs (Some p) = (0 < length (past (other_than c) bs)) × (p.0.now ≡ front (other_than c) bs) × (p.1.now ≡ drop 1 (past (other_than c) bs))
+
+-- what stands before a comment; 35 is '#'
 abbrev pub code_of : List ℕ → List ℕ
-code_of bs = front Code bs
+code_of bs = front (other_than 35) bs
 
 -- the first word and what follows it, or none where the text is blank
 abbrev pub NextWord : List ℕ → Option (Bor (List ℕ) × Bor (List ℕ)) → Type 0
-NextWord bs None = length (past Blanks bs) ≡ 0
-NextWord bs (Some p) = (0 < length (past Blanks bs)) × (p.0.now ≡ front Word (past Blanks bs)) × (p.1.now ≡ past Word (past Blanks bs))
+NextWord bs None = length (past blank bs) ≡ 0
+NextWord bs (Some p) = (0 < length (past blank bs)) × (p.0.now ≡ front in_word (past blank bs)) × (p.1.now ≡ past in_word (past blank bs))
 
--- at most n words of a text, the first first
-abbrev pub words_by : ℕ → List ℕ → List (List ℕ)
-words_by zero bs = []
-words_by (suc n) bs = cond (length (past Blanks bs) == 0) [] (front Word (past Blanks bs) ∷ words_by n (past Word (past Blanks bs)))
+-- the words of a text: its parts between blanks, but for the empty ones
+abbrev pub words_in : List ℕ → List (List ℕ)
+words_in bs = filter (λ w. not (length w == 0)) (slice_split blank bs)
 
--- the words of a line, up to its comment; a word has a byte at least, so that there are no more words than bytes
-unfoldable pub words_of : List ℕ → List (List ℕ)
-words_of line = words_by (length (code_of line)) (code_of line)
+-- the words of a line, up to its comment
+abbrev pub words_of : List ℕ → List (List ℕ)
+words_of line = words_in (code_of line)

@@ -1,11 +1,14 @@
 // Why a line of a script is not done.
-ghost use Rattle.std.specs.Prelude.{◌≡◌};
+ghost use Rattle.std.specs.Prelude.{◌≡◌, Some};
 ghost use Rattle.scripts.specs.declared.fault.Fault.TheVariants.{Memory};
+ghost use Rattle.scripts.specs.Faults.{message, fault_of};
 
+use hex::FromHexError;
 use std::alloc::{AllocError, AllocFailed};
+use std::error::Error;
 use std::fmt;
 
-#[derive(Clone, Copy, PartialEq, Debug)]
+#[derive(Clone, Copy, PartialEq, Eq, Debug)]
 pub enum Fault {
     // There is no memory for it.
     Memory,
@@ -27,7 +30,10 @@ pub enum Fault {
     File,
 }
 
+// Written by hand, since a derived message has no contract.
 impl fmt::Display for Fault {
+    ghost output = { λ fault. Some (message fault) };
+
     fn fmt<W: fmt::Write>(&self, f: &mut fmt::Formatter<W>) -> fmt::Result {
         let text = match self {
             Fault::Memory => "out of memory",
@@ -40,9 +46,11 @@ impl fmt::Display for Fault {
             Fault::Paired => "a pair is no part of a pair",
             Fault::File => "the file cannot be read",
         };
-        write!(f, "{text}")
+        f.write_str(text)
     }
 }
+
+impl Error for Fault {}
 
 impl From<AllocError> for Fault {
     ghost from_gives = { λ _ r. r ≡ Memory };
@@ -57,5 +65,16 @@ impl<T: Drop> From<AllocFailed<T>> for Fault {
 
     fn from(_e: AllocFailed<T>) -> Fault {
         Fault::Memory
+    }
+}
+
+impl From<FromHexError> for Fault {
+    ghost from_gives = { λ e r. r ≡ fault_of e };
+
+    fn from(e: FromHexError) -> Fault {
+        match e {
+            FromHexError::OutOfMemory => Fault::Memory,
+            _ => Fault::Hex,
+        }
     }
 }

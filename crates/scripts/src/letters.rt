@@ -5,7 +5,7 @@ ghost use Rattle.scripts.specs.Letters.{LetterIs, LettersAre, NoLetter};
 
 use crate::fault::Fault;
 use crate::number::{label_of, number};
-use crate::text::{Run, run_length};
+use crate::text::split_once;
 use std::alloc::Global;
 use words::word::Letter;
 
@@ -13,33 +13,19 @@ use words::word::Letter;
 fn letter(word: &[u8]) -> Option<Letter>
     ensures { MatchOption result ((delay label : ℕ) → LetterIs word.now delay label → ⊥) (λ a. LetterIs word.now a.delay a.label) }
 {
-    let (delay, rest) = word.split_at(run_length(word, Run::Delay));
-    if rest.is_empty() {
-        return None;
-    }
-    let (_, label) = rest.split_at(1);
+    let (delay, label) = split_once(word, b':')?;
     let delay = number(delay)?;
     let label = label_of(number(label)?);
     Some(Letter { delay, label })
-}
-
-// The steps that the words write.
-fn letters(heap: Global, words: &[&[u8]]) -> Result<Vec<Letter>, Fault>
-    ensures { MatchResult result (λ v. LettersAre (map (λ x. x.now) words.now) v.items) (λ e. (e ≡ Memory) ⊎ ((e ≡ Step) × NoLetter (map (λ x. x.now) words.now))) }
-{
-    let mut all = Vec::new(heap);
-    for word in words {
-        let Some(a) = letter(word) else {
-            return Err(Fault::Step);
-        };
-        all.push(a)?;
-    }
-    Ok(all)
 }
 
 // The steps that the words of a replay write, from the fourth on.
 pub fn steps(heap: Global, words: &[&[u8]]) -> Result<Vec<Letter>, Fault>
     ensures { MatchResult result (λ v. LettersAre (drop 3 (map (λ x. x.now) words.now)) v.items) (λ e. (e ≡ Memory) ⊎ ((e ≡ Step) × NoLetter (drop 3 (map (λ x. x.now) words.now)))) }
 {
-    letters(heap, &words[words.len().min(3)..])
+    let mut all = Vec::new(heap);
+    for word in words.get(3..).unwrap_or_default() {
+        all.push(letter(word).ok_or(Fault::Step)?)?;
+    }
+    Ok(all)
 }

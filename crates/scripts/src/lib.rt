@@ -1,8 +1,8 @@
 // The statements of a script.
 #![tactic(auto)]
 
+pub mod digits;
 pub mod fault;
-pub mod hex;
 pub mod letters;
 pub mod number;
 pub mod source;

@@ -1,8 +1,8 @@
 // Numbers written in digits.
-ghost use Rattle.std.specs.Prelude.{◌≡◌, ◌<◌, ◌≤◌, min, true, length};
+ghost use Rattle.std.specs.Prelude.{◌≡◌, ◌≤◌, min};
 ghost use Rattle.std.specs.Option.{SomeIff};
 ghost use Rattle.std.specs.Str.Parse.{digits_value};
-ghost use Rattle.scripts.specs.Numbers.{Numeral, Written, prefixed, written};
+ghost use Rattle.scripts.specs.Numbers.{Numeral, Written, written};
 
 // The number that the digits write in a base, where it fits.
 fn digits(text: &[u8], radix: u32) -> Option<u32>
@@ -20,27 +20,13 @@ fn digits(text: &[u8], radix: u32) -> Option<u32>
     Some(sum)
 }
 
-// Whether the word begins with 0x.
-fn is_prefixed(word: &[u8]) -> bool
-    ensures value { result ≡ prefixed word.now }
-    ensures bound { result ≡ true → 2 ≤ length word.now }
-{
-    if word.len() < 2 {
-        return false;
-    }
-    let zero = word[0] == b'0';
-    let x = word[1] == b'x';
-    x & zero
-}
-
 // The number that a word writes: in decimal, or in hexadecimal after 0x.
 pub fn number(word: &[u8]) -> Option<u32>
     ensures { SomeIff result (Written word.now) (written word.now) }
 {
-    if is_prefixed(word) {
-        digits(&word[2..], 16)
-    } else {
-        digits(word, 10)
+    match word {
+        [b'0', b'x', hexadecimal @ ..] => digits(hexadecimal, 16),
+        _ => digits(word, 10),
     }
 }
 

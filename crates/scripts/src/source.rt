@@ -2,7 +2,7 @@
 ghost use Rattle.scripts.specs.Sources.{SourceIs};
 
 // A word of a script that stands for a file.
-#[derive(Clone, Copy)]
+#[derive(Clone, Copy, PartialEq, Eq, Debug)]
 pub enum Source<'a> {
     // `-`
     Empty,
@@ -12,18 +12,14 @@ pub enum Source<'a> {
     Digits(&'a [u8]),
 }
 
-pub fn source_of(word: &[u8]) -> Source<'_>
-    ensures { SourceIs word.now result }
-{
-    if word == b"-".as_slice() {
-        return Source::Empty;
+impl<'a> From<&'a [u8]> for Source<'a> {
+    ghost from_gives = { λ word source. SourceIs word.now source };
+
+    fn from(word: &'a [u8]) -> Source<'a> {
+        match word {
+            b"-" => Source::Empty,
+            [b'@', path @ ..] => Source::File(path),
+            _ => Source::Digits(word),
+        }
     }
-    if word.is_empty() {
-        return Source::Digits(word);
-    }
-    if word[0] != b'@' {
-        return Source::Digits(word);
-    }
-    let (_, path) = word.split_at(1);
-    Source::File(path)
 }

@@ -8,7 +8,7 @@ use crate::fault::Fault;
 use crate::number::number;
 
 // The word that a statement begins with.
-#[derive(Clone, Copy)]
+#[derive(Clone, Copy, PartialEq, Eq, Debug)]
 pub enum Keyword {
     Table,
     Deadline,
@@ -17,8 +17,17 @@ pub enum Keyword {
     Replay,
 }
 
+// The labels a and b, the label set m and the limit c.
+#[derive(Clone, Copy, PartialEq, Eq, Debug)]
+pub struct DeadlineNumbers {
+    pub a: u32,
+    pub b: u32,
+    pub m: u32,
+    pub c: u32,
+}
+
 // A statement; names and sources are parts of the line.
-#[derive(Clone, Copy)]
+#[derive(Clone, Copy, PartialEq, Eq, Debug)]
 pub enum Statement<'a> {
     Blank,
     Table {
@@ -27,10 +36,7 @@ pub enum Statement<'a> {
     },
     Deadline {
         name: &'a [u8],
-        a: u32,
-        b: u32,
-        m: u32,
-        c: u32,
+        numbers: DeadlineNumbers,
     },
     Pair {
         name: &'a [u8],
@@ -47,38 +53,20 @@ pub enum Statement<'a> {
     },
 }
 
-// The keyword that the word is.
-fn recognize(word: &[u8]) -> Option<Keyword>
-    ensures { Recognized word.now result }
-{
-    if word == b"table".as_slice() {
-        return Some(Keyword::Table);
-    }
-    if word == b"deadline".as_slice() {
-        return Some(Keyword::Deadline);
-    }
-    if word == b"pair".as_slice() {
-        return Some(Keyword::Pair);
-    }
-    if word == b"describe".as_slice() {
-        return Some(Keyword::Describe);
-    }
-    if word == b"replay".as_slice() {
-        return Some(Keyword::Replay);
-    }
-    None
-}
+impl TryFrom<&[u8]> for Keyword {
+    type Error = Fault;
 
-// Whether a statement with the keyword may have so many words.
-fn fits(keyword: Keyword, count: usize) -> bool
-    ensures { result ≡ fitting keyword count }
-{
-    match keyword {
-        Keyword::Table => count == 3,
-        Keyword::Deadline => count == 6,
-        Keyword::Pair => count == 4,
-        Keyword::Describe => count == 2,
-        Keyword::Replay => count >= 3,
+    ghost try_from_gives = { λ word r. Recognized word.now r };
+
+    fn try_from(word: &[u8]) -> Result<Keyword, Fault> {
+        match word {
+            b"table" => Ok(Keyword::Table),
+            b"deadline" => Ok(Keyword::Deadline),
+            b"pair" => Ok(Keyword::Pair),
+            b"describe" => Ok(Keyword::Describe),
+            b"replay" => Ok(Keyword::Replay),
+            _ => Err(Fault::Unknown),
+        }
     }
 }
 
@@ -86,61 +74,33 @@ fn fits(keyword: Keyword, count: usize) -> bool
 fn number_of(word: &[u8]) -> Result<u32, Fault>
     ensures { MatchResult result (Writes word.now) (λ e. (e ≡ Number) × (Written word.now → ⊥)) }
 {
-    match number(word) {
-        Some(n) => Ok(n),
-        None => Err(Fault::Number),
-    }
-}
-
-// The deadline that six words spell.
-fn deadline<'a>(words: &[&'a [u8]]) -> Result<Statement<'a>, Fault>
-    requires { (length words.now ≡ 6) × (word_at (map (λ x. x.now) words.now) 0 ≡ codes "deadline") }
-    ensures { Read (map (λ x. x.now) words.now) result }
-{
-    let a = number_of(words[2])?;
-    let b = number_of(words[3])?;
-    let m = number_of(words[4])?;
-    let c = number_of(words[5])?;
-    let name = words[1];
-    Ok(Statement::Deadline { name, a, b, m, c })
-}
-
-// The replay that three or more words spell.
-fn replay<'a>(words: &[&'a [u8]]) -> Result<Statement<'a>, Fault>
-    requires { (3 ≤ length words.now) × (word_at (map (λ x. x.now) words.now) 0 ≡ codes "replay") }
-    ensures { Read (map (λ x. x.now) words.now) result }
-{
-    let grid = number_of(words[2])?;
-    let name = words[1];
-    Ok(Statement::Replay { name, grid })
+    number(word).ok_or(Fault::Number)
 }
 
 // The statement that the words spell.
 pub fn parse<'a>(words: &[&'a [u8]]) -> Result<Statement<'a>, Fault>
     ensures { Read (map (λ x. x.now) words.now) result }
 {
-    let count = words.len();
-    if count == 0 {
+    let [first, rest @ ..] = words else {
         return Ok(Statement::Blank);
-    }
-    let Some(keyword) = recognize(words[0]) else {
-        return Err(Fault::Unknown);
     };
-    if !fits(keyword, count) {
-        return Err(Fault::Words);
-    }
-    match keyword {
-        Keyword::Table => Ok(Statement::Table {
-            name: words[1],
-            source: words[2],
-        }),
-        Keyword::Deadline => deadline(words),
-        Keyword::Pair => Ok(Statement::Pair {
-            name: words[1],
-            left: words[2],
-            right: words[3],
-        }),
-        Keyword::Describe => Ok(Statement::Describe { name: words[1] }),
-        Keyword::Replay => replay(words),
+    match (Keyword::try_from(*first)?, rest) {
+        (Keyword::Table, [name, source]) => Ok(Statement::Table { name, source }),
+        (Keyword::Deadline, [name, a, b, m, c]) => {
+            let numbers = DeadlineNumbers {
+                a: number_of(a)?,
+                b: number_of(b)?,
+                m: number_of(m)?,
+                c: number_of(c)?,
+            };
+            Ok(Statement::Deadline { name, numbers })
+        }
+        (Keyword::Pair, [name, left, right]) => Ok(Statement::Pair { name, left, right }),
+        (Keyword::Describe, [name]) => Ok(Statement::Describe { name }),
+        (Keyword::Replay, [name, grid, ..]) => {
+            let grid = number_of(grid)?;
+            Ok(Statement::Replay { name, grid })
+        }
+        _ => Err(Fault::Words),
     }
 }

@@ -4,6 +4,5 @@ pub mod Prefixes
 pub mod Ranges
 pub mod Runs
 pub mod Splits
-pub mod Turning
 pub mod Values
 pub mod Wide

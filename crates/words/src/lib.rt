@@ -1,10 +1,9 @@
 // Timed words of machines.
 #![tactic(auto)]
 
-mod follow;
 pub mod laws;
+mod player;
 pub mod replay;
 mod spot;
 mod spots;
-mod turns;
 pub mod word;

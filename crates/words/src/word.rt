@@ -1,5 +1,7 @@
 // Timed words as they are passed, and their ranges.
+ghost use Rattle.std.specs.Prelude.{◌↔◌, IsTrue};
 ghost use Rattle.words.specs.Replays.{word_of, Ranged};
+ghost use Rattle.words.specs.Sets.{InLetter, letter_of};
 
 use machines::refusal::Refusal;
 
@@ -18,17 +20,23 @@ pub struct Letter {
     pub label: u8,
 }
 
+impl Letter {
+    fn is_in_range(&self) -> bool
+        ensures { IsTrue result ↔ InLetter (letter_of self.now) }
+    {
+        self.delay <= LONGEST_DELAY && self.label <= LAST_LABEL
+    }
+}
+
 // Refuses a word that is not in range, where `grid` parts make one tick.
 pub fn in_range(grid: u32, word: &[Letter]) -> Result<(), Refusal>
     ensures { Ranged grid (word_of word.now) result }
 {
-    if grid == 0 || grid > MOST_PARTS || word.len() > MOST_STEPS {
+    if !(1..=MOST_PARTS).contains(&grid)
+        || word.len() > MOST_STEPS
+        || !word.iter().all(Letter::is_in_range)
+    {
         return Err(Refusal::Word);
-    }
-    for letter in word {
-        if letter.delay > LONGEST_DELAY || letter.label > LAST_LABEL {
-            return Err(Refusal::Word);
-        }
     }
     Ok(())
 }

@@ -7,7 +7,7 @@ use Rattle.std.proofs.lemmas.Bool.{cases_eq, and_parts, and_from, and_right, leb
 use Rattle.machines.specs.declared.refusal.Refusal.{Refusal}
 use Rattle.machines.specs.declared.refusal.Refusal.TheVariants.{Frame, Kind}
 use Rattle.models.specs.Numbers.{byte}
-use Rattle.models.specs.Format.{size_of, kind_of, locations_of, clocks_of, from_of, to_of, label_of, resets_of, count_of, place_of_atom, comparison_of, constant_of, HeadRecord, AtomRecord, EdgeRecord, Chain, ended, edged, LawfulFile, framed, head_has_kind, head_has_shape, head_in_range, each_atom, edge_has_kind, atom_has_shape, edge_has_shape, atom_in_range, edge_in_range, atom_is_known, edge_is_known, edge_order, Outcome, try, then, head_verdict, edge_verdict, edges_verdict, verdict, Accepted}
+use Rattle.models.specs.Format.{size_of, kind_of, locations_of, clocks_of, from_of, to_of, label_of, resets_of, count_of, place_of_atom, comparison_of, constant_of, HeadRecord, AtomRecord, EdgeRecord, Chain, ended, edged, LawfulFile, framed, each_atom, edge_has_kind, atom_has_shape, edge_has_shape, atom_in_range, edge_in_range, atom_is_known, edge_is_known, Outcome, try, then, head_verdict, edge_verdict, edges_verdict, verdict, Accepted}
 use Rattle.models.specs.Laws.Atoms.{each_holds, each_from}
 
 -- ---- verdicts
@@ -43,11 +43,10 @@ module _ (bs : List ℕ) where
   -- ---- what a test that is passed tells
 
   frame_from : (at : ℕ) → framed bs at ≡ true → (4 ≤ size_of bs at) × (at + size_of bs at ≤ length bs)
-  unfolding framed
   frame_from at h = let p = three (nat_le (at + 4) (length bs)) (nat_le 4 (size_of bs at)) (nat_le (at + size_of bs at) (length bs)) h in (leb-true _ _ p.1, leb-true _ _ p.2)
 
   pub head_from : head_verdict bs ≡ Ok tt → HeadRecord bs
-  unfolding head_verdict head_has_kind head_has_shape head_in_range
+  unfolding head_verdict
   head_from h =
       let t1 = tried (framed bs 0) _ _ h in
       let t2 = tried (kind_of bs 0 == 1) _ _ t1.1 in
@@ -68,7 +67,6 @@ module _ (bs : List ℕ) where
       }
 
   atom_from : (p : ℕ) → atom_has_shape bs p ≡ true → atom_in_range bs p ≡ true → atom_is_known bs p ≡ true → AtomRecord bs p
-  unfolding atom_has_shape atom_in_range atom_is_known
   atom_from p shape range known =
       let ranges = and_parts (nat_le (comparison_of bs p) 3) (nat_le (constant_of bs p) 100000) range in
       record {
@@ -79,30 +77,26 @@ module _ (bs : List ℕ) where
       }
 
   kind_from : (at room : ℕ) → edge_has_kind bs at room ≡ true → (kind_of bs at ≡ 2) × (0 < room)
-  unfolding edge_has_kind
   kind_from at room h = let p = and_parts (kind_of bs at == 2) (nat_lt 0 room) h in (eqb-true _ _ p.0, ltb-true _ _ p.1)
 
   shape_from : (at : ℕ) → edge_has_shape bs at ≡ true → (size_of bs at ≡ 12 + 8 * count_of bs at) × (byte bs (at + 11) ≡ 0) × (each_atom atom_has_shape bs at (count_of bs at) ≡ true)
-  unfolding edge_has_shape
   shape_from at h =
       let p = three (size_of bs at == 12 + 8 * count_of bs at) (byte bs (at + 11) == 0) (each_atom atom_has_shape bs at (count_of bs at)) h in
       (eqb-true _ _ p.0, eqb-true _ _ p.1, p.2)
 
   range_from : (at : ℕ) → edge_in_range bs at ≡ true → (label_of bs at ≤ 31) × (count_of bs at ≤ 4) × (each_atom atom_in_range bs at (count_of bs at) ≡ true)
-  unfolding edge_in_range
   range_from at h =
       let p = three (nat_le (label_of bs at) 31) (nat_le (count_of bs at) 4) (each_atom atom_in_range bs at (count_of bs at)) h in
       (leb-true _ _ p.0, leb-true _ _ p.1, p.2)
 
   known_from : (at : ℕ) → edge_is_known bs at ≡ true → (from_of bs at < locations_of bs) × (to_of bs at < locations_of bs) × (resets_of bs at < 2 ^ clocks_of bs) × (each_atom atom_is_known bs at (count_of bs at) ≡ true)
-  unfolding edge_is_known
   known_from at h =
       let p = three (nat_lt (from_of bs at) (locations_of bs) && nat_lt (to_of bs at) (locations_of bs)) (nat_lt (resets_of bs at) (2 ^ clocks_of bs)) (each_atom atom_is_known bs at (count_of bs at)) h in
       let q = and_parts (nat_lt (from_of bs at) (locations_of bs)) (nat_lt (to_of bs at) (locations_of bs)) p.0 in
       (ltb-true _ _ q.0, ltb-true _ _ q.1, ltb-true _ _ p.1, p.2)
 
   pub edge_from : (at room previous : ℕ) → edge_verdict bs at room previous ≡ Ok tt → EdgeRecord bs at × (0 < room) × (previous ≤ from_of bs at)
-  unfolding edge_verdict edge_order
+  unfolding edge_verdict
   edge_from at room previous h =
       let t1 = tried (framed bs at) _ _ h in
       let t2 = tried (edge_has_kind bs at room) _ _ t1.1 in
@@ -134,12 +128,11 @@ module _ (bs : List ℕ) where
   -- ---- what is lawful passes the tests
 
   frame_to : (at : ℕ) → 4 ≤ size_of bs at → at + size_of bs at ≤ length bs → framed bs at ≡ true
-  unfolding framed
   frame_to at long whole =
       let left : at + 4 ≤ length bs = omega arith in and_from _ _ (and_from _ _ (le-leb _ _ left) (le-leb _ _ long)) (le-leb _ _ whole)
 
   head_to : HeadRecord bs → head_verdict bs ≡ Ok tt
-  unfolding head_verdict head_has_kind head_has_shape head_in_range
+  unfolding head_verdict
   head_to h =
       let size : size_of bs 0 ≡ 8 = h.size in
       passed _ _ _ (frame_to 0 (omega (arith, size)) (omega (arith, size, h.whole)))
@@ -148,42 +141,35 @@ module _ (bs : List ℕ) where
       (passed _ _ _ (and_from _ _ (and_from _ _ (le-leb _ _ h.some_location) (le-leb _ _ h.few_locations)) (le-leb _ _ h.few_clocks)) refl)))
 
   atom_shape_to : (p : ℕ) → AtomRecord bs p → atom_has_shape bs p ≡ true
-  unfolding atom_has_shape
   atom_shape_to p a = eq-eqb _ _ a.spare
 
   atom_range_to : (p : ℕ) → AtomRecord bs p → atom_in_range bs p ≡ true
-  unfolding atom_in_range
   atom_range_to p a = and_from _ _ (le-leb _ _ a.comparison) (le-leb _ _ a.constant)
 
   atom_known_to : (p : ℕ) → AtomRecord bs p → atom_is_known bs p ≡ true
-  unfolding atom_is_known
   atom_known_to p a = lt-ltb _ _ a.clock
 
   module _ (at : ℕ) (e : EdgeRecord bs at) where
     kind_to : (room : ℕ) → edge_has_kind bs at (suc room) ≡ true
-    unfolding edge_has_kind
     kind_to room = and_from _ _ (eq-eqb _ _ e.kind) (lt-ltb _ _ (omega arith))
 
     shape_to : edge_has_shape bs at ≡ true
-    unfolding edge_has_shape
     shape_to =
         and_from _ _ (and_from _ _ (eq-eqb _ _ e.size) (eq-eqb _ _ e.spare))
         (each_from atom_has_shape bs at (count_of bs at) (λ i l. atom_shape_to (place_of_atom at i) (e.atoms i l)))
 
     range_to : edge_in_range bs at ≡ true
-    unfolding edge_in_range
     range_to =
         and_from _ _ (and_from _ _ (le-leb _ _ e.label) (le-leb _ _ e.few_atoms))
         (each_from atom_in_range bs at (count_of bs at) (λ i l. atom_range_to (place_of_atom at i) (e.atoms i l)))
 
     known_to : edge_is_known bs at ≡ true
-    unfolding edge_is_known
     known_to =
         and_from _ _ (and_from _ _ (and_from _ _ (lt-ltb _ _ e.from) (lt-ltb _ _ e.to)) (lt-ltb _ _ e.resets))
         (each_from atom_is_known bs at (count_of bs at) (λ i l. atom_known_to (place_of_atom at i) (e.atoms i l)))
 
     edge_to : (room previous : ℕ) → previous ≤ from_of bs at → edge_verdict bs at (suc room) previous ≡ Ok tt
-    unfolding edge_verdict edge_order
+    unfolding edge_verdict
     edge_to room previous h =
         passed _ _ _ (frame_to at (omega (arith, e.size)) e.whole) (passed _ _ _ (kind_to room) (passed _ _ _ shape_to (passed _ _ _ range_to (passed _ _ _ known_to (passed _ _ _ (le-leb _ _ h) refl)))))
 
@@ -195,7 +181,7 @@ module _ (bs : List ℕ) where
   edges_done (suc room) at previous h = cond-true (at == length bs) _ _ (eq-eqb _ _ h)
 
   no_room : (at previous : ℕ) (next : Outcome) → then (edge_verdict bs at 0 previous) next ≡ edge_verdict bs at 0 previous
-  unfolding edge_verdict edge_has_kind
+  unfolding edge_verdict
   no_room at previous next = stands (framed bs at) (kind_of bs at == 2 && nat_lt 0 0) (Frame at) (Kind at) _ next (and_right _ _ refl)
 
   -- before the end the edge is checked, and then those after it
@@ -207,6 +193,15 @@ module _ (bs : List ℕ) where
       let less : room ≡ suc room - 1 = omega arith in
       cond-false (at == length bs) _ _ (ne_eqb _ _ h)
       ∙ ap (λ n. then (edge_verdict bs at (suc room) previous) (edges_verdict n bs (at + size_of bs at) (from_of bs at))) less
+
+  -- a refused edge is the answer
+  pub edges_refused : (room at previous : ℕ) (e : Refusal) → (at ≢ length bs) → edge_verdict bs at room previous ≡ Err e → edges_verdict room bs at previous ≡ Err e
+  edges_refused room at previous e ne h = edges_step room at previous ne ∙ ap (λ r. then r (edges_verdict (room - 1) bs (at + size_of bs at) (from_of bs at))) h
+
+  -- after an accepted edge the others are
+  pub edges_passed : (room at previous : ℕ) → (at ≢ length bs) → edge_verdict bs at room previous ≡ Ok tt
+      → edges_verdict room bs at previous ≡ edges_verdict (room - 1) bs (at + size_of bs at) (from_of bs at)
+  edges_passed room at previous ne h = edges_step room at previous ne ∙ ap (λ r. then r (edges_verdict (room - 1) bs (at + size_of bs at) (from_of bs at))) h
 
   -- where the edges from a place are accepted, and it is before the end: so is the edge there, and what follows it
   pub edges_next : (room at previous : ℕ) → (at ≢ length bs) → edges_verdict room bs at previous ≡ Ok tt

@@ -7,16 +7,17 @@ use Rattle.std.proofs.Math.Nat.{le-max_left, le-max_right, max-le}
 use Rattle.std.proofs.lemmas.List.FromFn.{length-map-range_with_len, get_or-map-range_with_len}
 use Rattle.std.proofs.ByRecursion.{all_kept_by, All-map, All-get_or, All-weaker}
 use Rattle.std.proofs.lemmas.List.{length-map, get_or_past}
+use Rattle.std.proofs.lemmas.Option.{slice_get-map}
 use Rattle.std.proofs.lemmas.Bool.{cases_lt, eq-eqb, ne_eqb}
 use Rattle.std.specs.List.{slice_get, range_with_len, AllByRecursion}
 use Rattle.std.specs.Option.{option_map}
 use Rattle.machines.specs.Automaton.{Atom, Edge, bit, leaving, edge_at, on_clock, LawfulAtom, LawfulEdge, Carried, Lawful}
-use Rattle.machines.specs.Laws.Lists.{nth_map, from_map, all_nth, Stands, stands_kept, length-kept}
+use Rattle.machines.specs.Laws.Lists.{from_map, all_nth, Stands, stands_kept, length-kept}
 use Rattle.machines.specs.Laws.Masks.{bit_below}
 use Rattle.models.specs.Format.{locations_of, from_of, label_of, count_of, place_of_atom, HeadRecord, EdgeRecord, Accepted}
 use Rattle.models.specs.Model.{places_of, places_at, atom_read, edge_read, widest, labels_of, model}
 use Rattle.models.specs.Laws.Files.{accepted_parts}
-use Rattle.models.specs.Laws.Places.{places_lawful, few_edges}
+use Rattle.models.specs.Laws.Places.{places_lawful, low_labels, few_edges}
 use Rattle.models.specs.Laws.Sorted.{none_kept}
 use Rattle.models.specs.Laws.Unions.{union_has, union_from, union_small}
 
@@ -74,9 +75,9 @@ module _ (bs : List ℕ) (ok : Accepted bs) where
       ]
 
   pub edge_at_is : (l k : ℕ) → edge_at (model bs) l k ≡ option_map (edge_read bs) (slice_get (places_at bs l) k)
-  edge_at_is l k = ap (λ es. slice_get es k) (leaving_is l) ∙ nth_map (edge_read bs) (places_at bs l) k
+  edge_at_is l k = ap (λ es. slice_get es k) (leaving_is l) ∙ slice_get-map (edge_read bs) (places_at bs l) k
 
-  few_leaving : (l : ℕ) → length (places_at bs l) ≤ 1024
+  pub few_leaving : (l : ℕ) → length (places_at bs l) ≤ 1024
   few_leaving l = omega (arith, length-kept (λ at. nat_eq (from_of bs at) l) (places_of bs), few_edges bs)
 
   pub narrow : widest bs (locations_of bs) ≤ 1024
@@ -139,9 +140,7 @@ module _ (bs : List ℕ) (ok : Accepted bs) where
 
   pub labels_small : labels_of bs < 2 ^ 32
   unfolding labels_of
-  labels_small =
-      union_small (label_of bs) 0 (places_of bs) (omega arith)
-      (All-weaker (EdgeRecord bs) (λ at. label_of bs at ≤ 31) (λ at e. e.label) (places_of bs) (places_lawful bs ok))
+  labels_small = union_small (label_of bs) 0 (places_of bs) (omega arith) (low_labels bs ok)
 
   label_from : (b : ℕ) → bit (labels_of bs) b ≡ 1 → (at : ℕ) × Stands (places_of bs) at × (label_of bs at ≡ b)
   unfolding labels_of

@@ -4,8 +4,9 @@ use Rattle.std.proofs.Math.Path.{refl, ap}
 use Rattle.std.proofs.Common.{◌∙◌}
 use native.Mathlib.Omega.{arith}
 use Rattle.std.proofs.lemmas.Bool.{eq-eqb, ne_eqb, cond-true, cond-false}
+use Rattle.std.proofs.ByRecursion.{All-weaker}
 use Rattle.std.specs.List.{AllByRecursion}
-use Rattle.models.specs.Format.{size_of, from_of, EdgeRecord, Chain, ended, edged, Accepted}
+use Rattle.models.specs.Format.{size_of, from_of, label_of, EdgeRecord, Chain, ended, edged, Accepted}
 use Rattle.models.specs.Model.{places_from, places_of}
 use Rattle.models.specs.Laws.Files.{lawful_from}
 use Rattle.models.specs.Laws.Sorted.{Sorted}
@@ -51,6 +52,9 @@ module _ (bs : List ℕ) where
     pub places_sorted : Sorted (from_of bs) 0 (places_of bs)
     unfolding places_of
     places_sorted = (chain_places 1024 0 8 (lawful_from bs ok).edges).1
+
+    pub low_labels : AllByRecursion (λ at. label_of bs at ≤ 31) (places_of bs)
+    low_labels = All-weaker (EdgeRecord bs) (λ at. label_of bs at ≤ 31) (λ at e. e.label) (places_of bs) places_lawful
 
   pub few_edges : length (places_of bs) ≤ 1024
   unfolding places_of

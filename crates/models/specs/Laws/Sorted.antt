@@ -1,11 +1,10 @@
 -- Lists whose keys do not fall: those with one key stand together.
-use Rattle.std.specs.Prelude.{◌≡◌, ℕ, zero, suc, ◌+◌, ◌-◌, ◌<◌, ◌≤◌, Bool, false, ltb, List, [], ◌∷◌, length, take, drop, Some, None, filter, ◌==◌, nat_eq, nat_lt, slice_index, refl}
+use Rattle.std.specs.Prelude.{◌≡◌, ℕ, zero, suc, ◌+◌, ◌-◌, ◌<◌, ◌≤◌, Bool, false, ltb, List, [], ◌∷◌, length, take, drop, filter, ◌==◌, nat_eq, nat_lt, slice_index, slice_index_or, refl}
 use Rattle.std.proofs.Common.{sym, ap, ◌∙◌, inl, inr, arith}
 use Rattle.std.proofs.ByRecursion.{All-weaker}
-use Rattle.std.proofs.lemmas.List.{length-take, length-drop, get_or-take, get_or-drop}
-use Rattle.std.proofs.lemmas.Option.{slice_get-get_or, slice_get_past}
 use Rattle.std.proofs.lemmas.Bool.{cases_lt, cases_order, lt-ltb, le-ltb, eq-eqb, ne_eqb, cond-true, cond-false}
-use Rattle.std.specs.List.{slice_get, AllByRecursion}
+use Rattle.std.specs.List.{AllByRecursion}
+use Rattle.std.specs.List.Sorted.{IsNonDecreasingBy}
 use Rattle.machines.specs.Laws.Lists.{length-kept}
 
 pub none_kept : (test : ℕ → Bool) (xs : List ℕ) → AllByRecursion (λ x. test x ≡ false) xs → filter test xs ≡ []
@@ -25,6 +24,18 @@ module _ (key : ℕ → ℕ) where
   above : (low : ℕ) (xs : List ℕ) → Sorted low xs → (n : ℕ) → n ≤ low → AllByRecursion (λ x. n ≤ key x) xs
   above low [] s n h = tt
   above low (x ∷ xs) s n h = (omega (arith, s.0), above (key x) xs s.1 n (omega (arith, s.0)))
+
+  least : (low : ℕ) (xs : List ℕ) → Sorted low xs → (i d : ℕ) → i < length xs → low ≤ key (slice_index_or xs i d)
+  least low [] s i d h = absurd (omega arith)
+  least low (x ∷ xs) s zero d h = s.0
+  least low (x ∷ xs) s (suc i) d h = omega (arith, s.0, least (key x) xs s.1 i d (omega arith))
+
+  pub non_decreasing : (low : ℕ) (xs : List ℕ) → Sorted low xs → IsNonDecreasingBy key xs
+  non_decreasing low [] s i j d h lt = absurd (omega arith)
+  non_decreasing low (x ∷ xs) s zero zero d h lt = omega arith
+  non_decreasing low (x ∷ xs) s zero (suc j) d h lt = least (key x) xs s.1 j d (omega arith)
+  non_decreasing low (x ∷ xs) s (suc i) zero d h lt = absurd (omega arith)
+  non_decreasing low (x ∷ xs) s (suc i) (suc j) d h lt = non_decreasing (key x) xs s.1 i j d (omega arith) (omega arith)
 
   none_below : (l low : ℕ) (xs : List ℕ) → l ≤ low → Sorted low xs → number_below l xs ≡ 0
   none_below l low xs h s =
@@ -85,19 +96,3 @@ module _ (key : ℕ → ℕ) where
             none_kept (λ x. nat_eq (key x) l) (x ∷ xs) (All-weaker (λ y. l + 1 ≤ key y) (λ y. (key y == l) ≡ false) (λ y h. ne_eqb _ _ (omega arith)) (x ∷ xs) (above (l + 1) (x ∷ xs) (omega arith, s.1) (l + 1) (omega arith)))
             ∙ sym (ap (λ n. take n (drop (number_below l (x ∷ xs)) (x ∷ xs))) b)
       ]
-
-  pub count_together : (l low : ℕ) (xs : List ℕ) → Sorted low xs → length (filter (λ x. nat_eq (key x) l) xs) ≡ number_below (l + 1) xs - number_below l xs
-  count_together l low xs s =
-      let a = number_below l xs in
-      let m : ℕ = number_below (l + 1) xs - a in
-      omega (arith, ap length (together l low xs s), length-take m (drop a xs), length-drop a xs, few_below (l + 1) xs)
-
-  pub nth_together : (l low k : ℕ) (xs : List ℕ) → Sorted low xs → k < number_below (l + 1) xs - number_below l xs → slice_get (filter (λ x. nat_eq (key x) l) xs) k ≡ Some (slice_index xs (number_below l xs + k))
-  nth_together l low k xs s h =
-      let a = number_below l xs in
-      let m : ℕ = number_below (l + 1) xs - a in
-      slice_get-get_or (filter (λ x. nat_eq (key x) l) xs) k 0 (omega (arith, count_together l low xs s))
-      ∙ ap (λ ys. Some (slice_index ys k)) (together l low xs s) ∙ ap Some (get_or-take m (drop a xs) k 0 h ∙ get_or-drop a xs k 0)
-
-  pub nth_apart : (l low k : ℕ) (xs : List ℕ) → Sorted low xs → number_below (l + 1) xs - number_below l xs ≤ k → slice_get (filter (λ x. nat_eq (key x) l) xs) k ≡ None
-  nth_apart l low k xs s h = slice_get_past (filter (λ x. nat_eq (key x) l) xs) k (omega (arith, count_together l low xs s))

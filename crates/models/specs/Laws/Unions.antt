@@ -3,7 +3,7 @@ use Rattle.std.specs.Prelude.{◌≡◌, ℕ, zero, suc, ◌+◌, ◌-◌, ◌*�
 use Rattle.std.proofs.Common.{sym, ap, ◌∙◌, inl, inr, pow-suc, arith, pow-add}
 use Rattle.std.specs.Int.Bits.{bit_or}
 use Rattle.std.proofs.Math.Pow.{pow-lt}
-use Rattle.std.proofs.lemmas.Nat.{shl-shr, or_lt, or_shr, or_mod}
+use Rattle.std.proofs.lemmas.Nat.{shl-shr, one_shl, or_lt, or_shr, or_mod}
 use Rattle.std.proofs.lemmas.Bool.{cases_lt}
 use Rattle.std.specs.List.{AllByRecursion}
 use Rattle.machines.specs.Automaton.{bit}
@@ -84,3 +84,10 @@ module _ (f : ℕ → ℕ) where
   union_small m [] h a = h
   union_small m (p ∷ ps) h a =
       union_small (bit_or m (2 ^ f p)) ps (or_lt 32 m (2 ^ f p) h (pow-lt {i = f p} {j = 32} (omega (arith, a.0)))) a.1
+
+  -- a bit that is shifted is the power, where no label is above 31
+  pub union_shifted : (m : ℕ) (ps : List ℕ) → AllByRecursion (λ p. f p ≤ 31) ps → fold (λ mask p. bit_or mask (1 * 2 ^ f p % 2 ^ 32)) m ps ≡ union m ps
+  union_shifted m [] a = refl
+  union_shifted m (p ∷ ps) a =
+      ap (λ n. fold (λ mask p. bit_or mask (1 * 2 ^ f p % 2 ^ 32)) (bit_or m n) ps) (one_shl (f p) 32 (omega (arith, a.0)))
+      ∙ union_shifted (bit_or m (2 ^ f p)) ps a.1

@@ -1,22 +1,24 @@
-use Rattle.std.proofs.Common.{◌≡◌, ℕ, ◌-◌, ◌<◌, ◌≤◌, min, ◌⊎◌, List, map, length, drop, vec_items, sym, ap, ◌∙◌, subst, inl, inr, arith, length-drop, take_all, MatchResult}
-use Rattle.std.proofs.lemmas.List.{drop_all, drop-map}
-use Rattle.std.proofs.lemmas.Bool.{cases_lt}
-use Rattle.scripts.specs.declared.fault.Fault.TheVariants.{Memory, Step}
-use Rattle.scripts.specs.Letters.{LettersAre, NoLetter}
+use Rattle.std.proofs.Common.{◌≡◌, ◌+◌, [], ◌∷◌, ◌++◌, map, get_or, take, drop, vec_items, sym, refl, ap, ◌∙◌, subst, inr, arith, rules}
+use Rattle.std.proofs.lemmas.List.{length-map, map_more, drop-map, get_or-map}
+use Rattle.std.proofs.lemmas.Result.{err_from_is_err_and}
+use Rattle.scripts.specs.Letters.{LetterIs, LettersAre}
+use Rattle.scripts.proofs.Steps.{letters_more, some_answered, none_answered}
 use Rattle.scripts.proofs.letters.steps.Goals as goal
 
--- no more is dropped than there is
-drop_some : {X : Type 0} (k : ℕ) (xs : List X) (m : ℕ) → m ≡ min (length xs) k → drop m xs ≡ drop k xs
-drop_some k xs m e = go (cases_lt k (length xs))
-  where
-    go : (k < length xs) ⊎ (length xs ≤ k) → drop m xs ≡ drop k xs
-    go (inl lt) = let same : m ≡ k = omega arith in ap (λ n. drop n xs) same
-    go (inr le) = drop_all m xs (omega arith) ∙ sym (drop_all k xs le)
+pub returns-in_err-ok_or : goal.returns-in_err-ok_or
+returns-in_err-ok_or c =
+    let ws = c.unwrap_or_default-word-items.result.now in
+    let p = err_from_is_err_and c.from_residual.result c.from_residual.ensures.1 in
+    let told = none_answered _ c.letter.result _ c.in_err-ok_or.ensures.value c.letter.ensures in
+    let i = c.loop-word.word-index in
+    let within = c.loop-word-test.true in
+    let same = drop-map (λ x. x.now) 3 c.args.words.now ∙ ap (map (λ x. x.now)) (sym c.loop-word.invariant.fourth_on) in
+    rw (p.1, p.2, same) (inr (told.0, (i, omega (arith, length-map ws (λ x. x.now), c.loop-word-test.true), rw (get_or-map (λ x. x.now) ws i (record { ref_ptr = (0, 0); now = [] }) [] within) told.1)))
 
-pub returns : goal.returns
-returns c =
-    let ws = c.args.words.now in
-    let m = c.min.result in
-    let rest = take_all (length ws - m) (drop m ws) (omega (arith, length-drop m ws)) in
-    let cut = ap (map (λ x. x.now)) (rest ∙ drop_some 3 ws m c.min.ensures) ∙ sym (drop-map (λ x. x.now) 3 ws) in
-    subst (λ us. MatchResult c.letters.result (λ v. LettersAre us (vec_items v)) (λ e. (e ≡ Memory) ⊎ ((e ≡ Step) × NoLetter us))) cut c.letters.ensures
+pub loop-word-preserved : goal.loop-word-preserved
+loop-word-preserved c = 
+    let ws = c.unwrap_or_default-word-items.result.now in
+    let i = c.loop-word.word-index in
+    let one = map_more (λ x. x.now) ws i (record { ref_ptr = (0, 0); now = [] }) c.loop-word-test.true in
+    let more = (letters_more (map (λ x. x.now) (take i ws)) (vec_items c.loop-word.all) _ c.in_ok-ok_or.field-0 c.loop-word.invariant.so_far (some_answered _ c.letter.result _ c.in_ok-ok_or.ensures.value c.letter.ensures)) in
+    record { fourth_on = c.loop-word.invariant.fourth_on; so_far = rw (c.in_ok-push.ensures.items, one) more }

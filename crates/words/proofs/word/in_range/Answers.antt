@@ -1,36 +1,25 @@
-use Rattle.std.proofs.Common.{refl, subst, arith}
-use Rattle.std.proofs.lemmas.List.{length-map, take_all}
-use Rattle.std.specs.List.{AllByRecursion}
-use Rattle.words.proofs.Ranges.{InLetter, letter_of, letter_more, letter_out}
+use Rattle.std.proofs.Common.{refl, rules, arith}
+use Rattle.std.proofs.lemmas.Bool.Decides.{nat_tests, when_true, when_false}
+use Rattle.std.proofs.lemmas.Iterator.{YieldsList-from_slice, cases_from_all}
+use Rattle.std.proofs.lemmas.List.{length-map}
+use Rattle.words.proofs.Ranges.{letters_in, letters_out}
 use Rattle.words.proofs.word.in_range.Goals as goal
-use Rattle.words.proofs.word.in_range.Goals.{then-letter-gt-LONGEST_DELAY-via-then-letter-gt-LONGEST_DELAY, then-letter-gt-LONGEST_DELAY-via-else-letter-gt-LONGEST_DELAY+then-letter-gt-LAST_LABEL}
-use Rattle.words.specs.Replays.{word_of}
+use Rattle.words.proofs.word.in_range.Goals.{then-not-contains-via-then-not-contains, then-not-contains-via-else-not-contains+then-word-gt-MOST_STEPS, then-not-contains-via-else-not-contains+else-word-gt-MOST_STEPS+then-not-all}
+use Rattle.words.specs.Sets.{InLetter, letter_of}
 
-pub returns-then-grid-eq0 : goal.returns-then-grid-eq0
-returns-then-grid-eq0 c =
-    ((refl, refl), λ h. let same = length-map c.args.word.now letter_of in omega (arith, c.then-grid-eq0.either, h.some_grid, h.small_grid, h.short))
-
-pub loop-letter-init : goal.loop-letter-init
-loop-letter-init c = tt
-
-pub loop-letter-preserved : goal.loop-letter-preserved
-loop-letter-preserved c =
-    letter_more c.args.word.now c.loop-letter.letter-index _ c.loop-letter-test.true c.loop-letter.invariant (c.if-letter-gt-LONGEST_DELAY.false, c.if-letter-gt-LAST_LABEL.false)
-
-pub returns-then-letter-gt-LONGEST_DELAY : goal.returns-then-letter-gt-LONGEST_DELAY
-returns-then-letter-gt-LONGEST_DELAY c =
-    let out = letter_out c.args.word.now c.loop-letter.letter-index (record { delay = 0; label = 0 }) c.loop-letter-test.true in
-    elim c.then-letter-gt-LONGEST_DELAY.branch [
-      | then-letter-gt-LONGEST_DELAY-via-then-letter-gt-LONGEST_DELAY w ↦ ((refl, refl), λ h. out (λ fine. omega (arith, w.if-letter-gt-LONGEST_DELAY.true, fine.0)) h.letters)
-      | then-letter-gt-LONGEST_DELAY-via-else-letter-gt-LONGEST_DELAY+then-letter-gt-LAST_LABEL w ↦ ((refl, refl), λ h. out (λ fine. omega (arith, w.if-letter-gt-LAST_LABEL.true, fine.1)) h.letters)
-    ]
+pub returns-then-not-contains : goal.returns-then-not-contains
+returns-then-not-contains c = ((refl, refl), λ h.
+  elim c.then-not-contains.branch [
+    | then-not-contains-via-then-not-contains w ↦ let h1 = h.some_grid in let h2 = h.small_grid in let k = c.contains.ensures.cases in let e = w.if-not-contains.true in grind (arith, nat_tests)
+    | then-not-contains-via-else-not-contains+then-word-gt-MOST_STEPS w ↦ omega (arith, h.short, length-map c.args.word.now letter_of)
+    | then-not-contains-via-else-not-contains+else-word-gt-MOST_STEPS+then-not-all w ↦
+      letters_out c.args.word.now (when_false _ _ w.if-not-all.true (cases_from_all _ _ w.all.result (λ a. InLetter (letter_of a)) (λ a. InLetter (letter_of a) → ⊥) w.all.ensures.ran (YieldsList-from_slice c.args.word.now cc) (λ x q k. search rules) (λ x q k. search rules))) h.letters
+  ])
 
 pub returns : goal.returns
-returns c =
-    let w = word_of c.args.word.now in
-    let same = length-map c.args.word.now letter_of in record {
-      some_grid = omega arith;
-      small_grid = c.if-grid-gt-MOST_PARTS.false;
-      short = omega arith;
-      letters = subst (AllByRecursion InLetter) (take_all c.loop-letter.letter-index w (omega arith)) c.loop-letter.invariant;
-    }
+returns c = record {
+  some_grid = let h = c.contains.ensures.cases in grind (arith, nat_tests);
+  small_grid = let h = c.contains.ensures.cases in grind (arith, nat_tests);
+  short = omega (arith, length-map c.args.word.now letter_of);
+  letters = letters_in c.args.word.now (when_true _ _ c.if-not-all.false (cases_from_all _ _ c.all.result (λ a. InLetter (letter_of a)) (λ a. InLetter (letter_of a) → ⊥) c.all.ensures.ran (YieldsList-from_slice c.args.word.now cc) (λ x q k. search rules) (λ x q k. search rules)));
+}

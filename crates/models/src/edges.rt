@@ -1,0 +1,94 @@
+// Where the edges of an accepted file stand, so that each question takes a few reads.
+ghost use Rattle.std.specs.Prelude.{◌≡◌, ℕ, ◌<◌, ◌≤◌, length, slice_index};
+ghost use Rattle.models.specs.Format.{locations_of, Accepted};
+ghost use Rattle.models.specs.Model.{places_of, places_at, widest, labels_of};
+ghost use Rattle.models.specs.Index.{below};
+
+use crate::record::Record;
+use arrayvec::ArrayVec;
+
+#[derive(Drop)]
+pub(crate) struct Edges<'a> {
+    pub bytes: &'a [u8],
+    // In the order of the file.
+    pub places: ArrayVec<u32, 1024>,
+    // For each location, how many edges leave a lower one.
+    first: [u16; 257],
+    ghost accepted: { Accepted bytes.now },
+    ghost listed: { places.items ≡ places_of bytes.now },
+    ghost counted: { (l : ℕ) → l < 257 → slice_index first l ≡ below bytes.now l },
+}
+
+// How many of the edges at these places leave a location below `location`.
+fn count_below(bytes: &[u8], places: &[u32], location: usize) -> usize
+    requires { (Accepted bytes.now) × (places.now ≡ places_of bytes.now) }
+    ensures count { result ≡ below bytes.now location }
+    ensures few { result ≤ 1024 }
+{
+    places.partition_point(|at| (Record { bytes, at: *at }.from() as usize) < location)
+}
+
+impl<'a> Edges<'a> {
+    pub fn new(bytes: &'a [u8], places: ArrayVec<u32, 1024>) -> Edges<'a>
+        requires { (Accepted bytes.now) × (places.items ≡ places_of bytes.now) }
+        ensures { result.bytes.now ≡ bytes.now }
+    {
+        let mut first = [0; 257];
+        for (l, slot) in first.iter_mut().enumerate() {
+            *slot = count_below(bytes, &places, l) as u16;
+        }
+        Edges {
+            bytes,
+            places,
+            first,
+        }
+    }
+
+    // The places of the edges that leave `location`.
+    pub fn leaving(&self, location: u32) -> &[u32]
+        ensures { result.now ≡ places_at self.now.bytes.now location }
+    {
+        // No file has more locations than that.
+        if location >= 256 {
+            return &[];
+        }
+        let l = location as usize;
+        &self.places[self.first[l] as usize..self.first[l + 1] as usize]
+    }
+
+    // How many edges leave `location`.
+    pub fn count(&self, location: u32) -> u32
+        ensures { result ≡ length (places_at self.now.bytes.now location) }
+    {
+        self.leaving(location).len() as u32
+    }
+
+    // The largest number of edges that leave a location.
+    pub fn width(&self) -> u32
+        ensures { result ≡ widest self.now.bytes.now (locations_of self.now.bytes.now) }
+    {
+        let locations = Record {
+            bytes: self.bytes,
+            at: 0,
+        }
+        .locations();
+        (0..locations as u32)
+            .map(|l| self.count(l))
+            .max()
+            .unwrap_or(0)
+    }
+
+    // The labels on edges, as a mask.
+    pub fn labels(&self) -> u32
+        ensures { result ≡ labels_of self.now.bytes.now }
+    {
+        self.places.iter().fold(0, |mask, at| {
+            mask | 1u32
+                << Record {
+                    bytes: self.bytes,
+                    at: *at,
+                }
+                .label()
+        })
+    }
+}
