@@ -5,24 +5,41 @@ use Rattle.machines.specs.Automaton.{Automaton, bare}
 use Rattle.machines.specs.Deadline.{deadline}
 use Rattle.models.specs.Format.{verdict}
 use Rattle.models.specs.Model.{model, places_of}
+use Rattle.machines.specs.declared.machine.Machine.{Ghosts}
 use Rattle.machines.specs.declared.machine.Summary.{Summary}
 use Rattle.machines.specs.declared.refusal.Refusal.{Refusal}
 use Rattle.machines.specs.Refusals.{Refused}
 use Rattle.pairs.specs.Product.{fits_limits, pair_of, product}
+use Rattle.machines.specs.declared.choice.Choice.{Choice}
+use Rattle.machines.specs.declared.choice.Choice.TheVariants.{First, Second}
+use Rattle.machines.specs.declared.deadline.Deadline.{Deadline}
+use Rattle.models.specs.declared.table.Table.{Table}
+use Rattle.pairs.specs.declared.pair.Pair.{Pair}
 use Rattle.console.specs.declared.part.Part.{Part}
-use Rattle.console.specs.declared.part.Part.TheVariants.{Table, Deadline}
+use Rattle.console.specs.declared.part.Part.TheVariants as part
 use Rattle.console.specs.declared.named.Named.{Named}
 use Rattle.console.specs.declared.named.Named.TheVariants as named
 
 -- the automaton that the file or the deadline says; one bare location where the file is refused
 abbrev pub part_automaton : Part → Automaton
-part_automaton (Table file) = cond (is_ok (verdict (vec_items file))) (model (vec_items file)) bare
-part_automaton (Deadline d) = deadline d.a d.b d.m d.c
+part_automaton (part.Table file) = cond (is_ok (verdict (vec_items file))) (model (vec_items file)) bare
+part_automaton (part.Deadline d) = deadline d.a d.b d.m d.c
 
 -- the automaton of a part, or of the pair of two
 abbrev pub named_automaton : Named Part → Automaton
 named_automaton (named.Part p) = part_automaton p
 named_automaton (named.Pair l r) = pair_of (part_automaton l) (part_automaton r)
+
+-- the automaton of a table or a deadline as machines
+abbrev pub station_automaton : Choice Table Deadline → Automaton
+station_automaton (First t) = model t.edges.bytes.now
+station_automaton (Second d) = deadline d.a d.b d.m d.c
+
+module _ {g h : Ghosts (Choice Table Deadline)} where
+  -- and that of one, or of the pair of two
+  abbrev pub machine_automaton : Choice (Choice Table Deadline) (Pair (Choice Table Deadline) (Choice Table Deadline) g h) → Automaton
+  machine_automaton (First s) = station_automaton s
+  machine_automaton (Second p) = pair_of (station_automaton p.left) (station_automaton p.right)
 
 -- the parts themselves, of which a session shares the ownership
 abbrev pub shared : {Z : Type 0} → Named (Rc Part Z) → Named Part

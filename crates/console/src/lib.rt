@@ -5,4 +5,3 @@ pub mod answer;
 pub mod named;
 pub mod part;
 pub mod session;
-pub mod sign;

@@ -1,9 +1,7 @@
 // A machine as a script gives it, and the machine itself.
-ghost use Rattle.std.specs.Prelude.{◌≡◌, if◌then◌else◌};
+ghost use Rattle.std.specs.Prelude.{◌≡◌};
 ghost use Rattle.machines.specs.Automaton.{bare};
-ghost use Rattle.machines.specs.Deadline.{deadline};
-ghost use Rattle.models.specs.Model.{model};
-ghost use Rattle.console.specs.Stations.{part_automaton};
+ghost use Rattle.console.specs.Stations.{part_automaton, station_automaton};
 
 use machines::choice::Choice;
 use machines::deadline::Deadline;
@@ -31,24 +29,14 @@ impl Part {
 // A table or a deadline.
 pub type Station<'a> = Choice<Table<'a>, Deadline>;
 
-// Some deadline, for a station that is a table.
-fn any_deadline() -> Deadline {
-    match Deadline::new(0, 1, 3, 0) {
-        Ok(d) => d,
-        Err(_) => unreachable(),
-    }
-}
-
 // The machine that the part makes.
 pub fn station<'a>(part: &'a Part) -> Station<'a>
-    ensures { (if result.takes then deadline result.second.a result.second.b result.second.m result.second.c else model result.first.bytes.now) ≡ part_automaton part.now }
+    ensures { station_automaton result ≡ part_automaton part.now }
 {
-    let mut table = Table::bare();
     match part {
         Part::Table(file) => {
-            let _ = table.load(file.as_slice());
-            Choice::new(table, any_deadline(), false)
+            Choice::First(Table::read(file.as_slice()).unwrap_or(Table::bare()))
         }
-        Part::Deadline(deadline) => Choice::new(table, *deadline, true),
+        Part::Deadline(deadline) => Choice::Second(*deadline),
     }
 }
