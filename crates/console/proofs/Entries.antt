@@ -1,7 +1,6 @@
 -- The names that a map is read as.
-use Rattle.std.proofs.Common.{◌≡◌, ℕ, Bool, true, false, List, [], ◌∷◌, map, Vec, vec_items, Some, Option, cond, refl, ap, sym, ◌∙◌}
+use Rattle.std.proofs.Common.{◌≡◌, ℕ, true, false, List, [], ◌∷◌, map, Vec, vec_items, Some, cond, refl, ap, sym, ◌∙◌}
 use Rattle.std.specs.Ordering.{nat_cmp, match_ordering}
-use Rattle.std.specs.declared.cmp.Ordering.{Ordering}
 use Rattle.std.specs.declared.cmp.Ordering.TheVariants.{Less, Equal, Greater}
 use Rattle.std.specs.Cmp.Lexicographic.{slice_cmp, nat_list_cmp_total}
 use Rattle.std.specs.Option.{option_map}
@@ -32,7 +31,7 @@ module _ {Y Z : Type 0} where
   putting k v [] = refl
   putting k v (e ∷ es) =
       elim (slice_cmp nat_cmp (vec_items k) (vec_items e.0)) as (λ o. map entry (match_ordering o ((k, v) ∷ e ∷ es) ((e.0, v) ∷ es) (e ∷ insert_entry (λ x y. slice_cmp nat_cmp (vec_items x) (vec_items y)) es k v))
-          ≡ by_order o ((vec_items k, shared v) ∷ map entry (e ∷ es)) ((vec_items e.0, shared v) ∷ map entry es) (entry e ∷ put (slice_cmp nat_cmp) (vec_items k) (shared v) (map entry es))) [
+      ≡ by_order o ((vec_items k, shared v) ∷ map entry (e ∷ es)) ((vec_items e.0, shared v) ∷ map entry es) (entry e ∷ put (slice_cmp nat_cmp) (vec_items k) (shared v) (map entry es))) [
         | Less ↦ refl
         | Equal ↦ refl
         | Greater ↦ ap (λ rest. entry e ∷ rest) (putting k v es)
@@ -42,10 +41,10 @@ module _ {Y Z : Type 0} where
   pub read-insert : (m n : BTreeMap (Vec ℕ Y) (Named (Rc Part Z))) (k : Vec ℕ Y) (v : Named (Rc Part Z)) → n.entries ≡ insert_entry (λ x y. slice_cmp nat_cmp (vec_items x) (vec_items y)) m.entries k v → read n ≡ insert (read m) (vec_items k) (shared v)
   read-insert m n k v is =
       same_map nat_list_cmp_total (slice_cmp-IsAntisymmetric nat_cmp-IsAntisymmetric) (read n) (insert (read m) (vec_items k) (shared v)) (λ q.
-        get-from_entries nat_list_cmp_total (map entry n.entries) q
-        ∙ ap (find (slice_cmp nat_cmp) q) (ap (map entry) is ∙ putting k v m.entries)
-        ∙ find-put (slice_cmp nat_cmp) nat_list_cmp_total q (vec_items k) (shared v) (map entry m.entries)
-        ∙ sym (get-insert nat_list_cmp_total (read m) (vec_items k) (shared v) q ∙ ap (cond _ (Some (shared v))) (get-from_entries nat_list_cmp_total (map entry m.entries) q)))
+      get-from_entries nat_list_cmp_total (map entry n.entries) q
+      ∙ ap (find (slice_cmp nat_cmp) q) (ap (map entry) is ∙ putting k v m.entries)
+      ∙ find-put (slice_cmp nat_cmp) nat_list_cmp_total q (vec_items k) (shared v) (map entry m.entries)
+      ∙ sym (get-insert nat_list_cmp_total (read m) (vec_items k) (shared v) q ∙ ap (cond _ (Some (shared v))) (get-from_entries nat_list_cmp_total (map entry m.entries) q)))
 
 -- what a session's map has at a name, and after a name is given
 pub ruleset reading = (get-read, read-insert)

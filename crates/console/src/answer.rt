@@ -8,8 +8,8 @@ use machines::machine::{Summary, summarize};
 use machines::refusal::Refusal;
 use models::table::Table;
 use pairs::pair::Pair;
-use words::replay::replay;
 use std::rc::Rc;
+use words::replay::replay;
 use words::word::Letter;
 
 // The numbers of the model file's machine and how many edges it has, or why it is refused.

@@ -22,7 +22,6 @@ pub struct Session {
 
 impl Model for Session {
     ghost use Rattle.console.specs.Names.{Names, read};
-
     ghost use Rattle.std.specs.FinMap.{code};
     ghost use Rattle.std.specs.Coded.{coded_list, coded_ℕ};
     ghost use Rattle.console.specs.contracts.part.Part as part;
@@ -112,5 +111,73 @@ impl Session {
         ensures err { OnErr result (self.new ≡ self.old) }
     {
         self.bind(heap, name, Named::Pair(left, right))
+    }
+}
+
+#[cfg(test)]
+mod tests {
+    use super::*;
+    use crate::named::machine;
+    use machines::deadline::Deadline;
+    use machines::machine::Machine;
+    use std::test::Fail;
+
+    // A model file of so many locations and no edge.
+    fn model(heap: Global, locations: u8) -> Result<Vec<u8>, AllocError> {
+        Vec::from_slice(heap, &[8, 0, 1, 0, locations, 0, 0, 0])
+    }
+
+    // How many locations the machine with the name has.
+    fn locations(session: &Session, name: &[u8]) -> Option<u32> {
+        session.find(name).map(|named| machine(named).locations())
+    }
+
+    // The part with the name.
+    fn part(session: &Session, name: &[u8]) -> Result<Rc<Part>, Fail> {
+        match session.find(name) {
+            Some(Named::Part(part)) => Ok(part.clone()?),
+            _ => Err("no part".into()),
+        }
+    }
+
+    #[test]
+    fn names_are_given(rt: HostRuntime) -> Result<(), Fail> {
+        let heap = rt.alloc();
+        let mut session = Session::new(heap);
+        assert_eq!(rt; locations(&session, b"door"), None);
+        session.load(heap, b"door", model(heap, 3)?)??;
+        session.define(heap, b"rule", Part::Deadline(Deadline::new(0, 1, 3, 5)?))?;
+        let door = part(&session, b"door")?;
+        let rule = part(&session, b"rule")?;
+        session.join(heap, b"ruled", door, rule)?;
+        assert_eq!(rt; locations(&session, b"door"), Some(3));
+        assert_eq!(rt; locations(&session, b"rule"), Some(2));
+        assert_eq!(rt; locations(&session, b"ruled"), Some(6));
+        Ok(())
+    }
+
+    #[test]
+    fn a_pair_keeps_its_parts(rt: HostRuntime) -> Result<(), Fail> {
+        let heap = rt.alloc();
+        let mut session = Session::new(heap);
+        session.load(heap, b"door", model(heap, 3)?)??;
+        let door = part(&session, b"door")?;
+        session.join(heap, b"both", door.clone()?, door)?;
+        session.load(heap, b"door", model(heap, 5)?)??;
+        assert_eq!(rt; locations(&session, b"door"), Some(5));
+        assert_eq!(rt; locations(&session, b"both"), Some(9));
+        Ok(())
+    }
+
+    #[test]
+    fn a_refused_file_leaves_the_name(rt: HostRuntime) -> Result<(), Fail> {
+        let heap = rt.alloc();
+        let mut session = Session::new(heap);
+        session.load(heap, b"door", model(heap, 3)?)??;
+        assert!(rt; session.load(heap, b"door", model(heap, 0)?)?.is_err());
+        assert!(rt; session.load(heap, b"shear", model(heap, 0)?)?.is_err());
+        assert_eq!(rt; locations(&session, b"door"), Some(3));
+        assert_eq!(rt; locations(&session, b"shear"), Some(1));
+        Ok(())
     }
 }

@@ -1,5 +1,3 @@
-use Rattle.std.proofs.Common.{arith}
-use Rattle.words.specs.Replays.{word_of, Replayed}
 use Rattle.console.proofs.answer.replay_named.Goals as goal
 
 pub returns : goal.returns
