@@ -1,36 +1,50 @@
--- The entries of a session, one by one.
-use Rattle.std.proofs.Common.{◌≡◌, ℕ, ◌+◌, ◌<◌, Bool, true, false, cond, List, [], ◌∷◌, ◌++◌, length, get_or, take, Some, None, vec_items, Decides, Option, sym, refl, ap, ◌∙◌, ap₂, arith}
-use Rattle.std.proofs.lemmas.Slice.Eq.{bytes_eq-Decides}
-use Rattle.std.proofs.lemmas.List.Sums.{fold_push, fold_more}
-use Rattle.std.specs.Str.{bytes_eq}
-use Rattle.console.specs.declared.session.Entry.{Entry}
-use Rattle.console.specs.declared.session.Named.{Named}
-use Rattle.console.specs.Names.{read_entry, latest}
+-- The names that a map is read as.
+use Rattle.std.proofs.Common.{◌≡◌, ℕ, true, false, List, [], ◌∷◌, map, Vec, vec_items, Some, cond, refl, ap, sym, ◌∙◌}
+use Rattle.std.specs.Ordering.{nat_cmp, match_ordering}
+use Rattle.std.specs.declared.cmp.Ordering.TheVariants.{Less, Equal, Greater}
+use Rattle.std.specs.Cmp.Lexicographic.{slice_cmp, nat_list_cmp_total}
+use Rattle.std.specs.Option.{option_map}
+use Rattle.std.specs.FinMap.{get, insert, find, put, get-from_entries, get-insert, same_map, slice_cmp-IsAntisymmetric, nat_cmp-IsAntisymmetric}
+use Rattle.std.specs.FinMap.Entries.{by_order, find-put}
+use Rattle.std.specs.Map.{lookup}
+use Rattle.std.specs.BTreeMap.{BTreeMap, get_by, is_at, insert_entry}
+use Rattle.std.specs.declared.rc.Rc.{Rc}
+use Rattle.console.specs.declared.part.Part.{Part}
+use Rattle.console.specs.declared.named.Named.{Named}
+use Rattle.console.specs.Stations.{shared}
+use Rattle.console.specs.Names.{entry, read}
 
-not_same : (xs ys : List ℕ) → (xs ≡ ys → ⊥) → bytes_eq xs ys ≡ false
-not_same xs ys apart = go (bytes_eq xs ys) (λ e. apart ((bytes_eq-Decides xs ys).0 e))
-  where
-    go : (b : Bool) → (b ≡ true → ⊥) → b ≡ false
-    go true never = absurd (never refl)
-    go false never = refl
+module _ {Y Z : Type 0} where
+  found : (q : List ℕ) (es : List (Vec ℕ Y × Named (Rc Part Z))) → find (slice_cmp nat_cmp) q (map entry es) ≡ option_map shared (lookup (is_at (λ k. slice_cmp nat_cmp q (vec_items k))) es)
+  found q [] = refl
+  found q (e ∷ es) =
+      elim (is_at (λ k. slice_cmp nat_cmp q (vec_items k)) e.0) as (λ b. cond b (Some (shared e.1)) (find (slice_cmp nat_cmp) q (map entry es)) ≡ option_map shared (cond b (Some e.1) (lookup (is_at (λ k. slice_cmp nat_cmp q (vec_items k))) es))) [
+        | true ↦ refl
+        | false ↦ found q es
+      ]
 
-pub latest_here : (name : List ℕ) (entries : List Entry) (e : Entry) → vec_items e.name ≡ name → latest name (entries ++ e ∷ []) ≡ Some e.what
-latest_here name entries e is =
-    fold_push (read_entry name) None entries e ∙ ap (λ b. cond b (Some e.what) (latest name entries)) ((bytes_eq-Decides (vec_items e.name) name).1 is)
+  -- a name is read as what it has in the map
+  pub get-read : (m : BTreeMap (Vec ℕ Y) (Named (Rc Part Z))) (q : List ℕ) → get (read m) q ≡ option_map shared (get_by (λ k. slice_cmp nat_cmp q (vec_items k)) m)
+  get-read m q = get-from_entries nat_list_cmp_total (map entry m.entries) q ∙ found q m.entries
 
-pub latest_other : (name : List ℕ) (entries : List Entry) (e : Entry) → (vec_items e.name ≡ name → ⊥) → latest name (entries ++ e ∷ []) ≡ latest name entries
-latest_other name entries e apart =
-    fold_push (read_entry name) None entries e ∙ ap (λ b. cond b (Some e.what) (latest name entries)) (not_same (vec_items e.name) name apart)
+  putting : (k : Vec ℕ Y) (v : Named (Rc Part Z)) (es : List (Vec ℕ Y × Named (Rc Part Z))) → map entry (insert_entry (λ x y. slice_cmp nat_cmp (vec_items x) (vec_items y)) es k v) ≡ put (slice_cmp nat_cmp) (vec_items k) (shared v) (map entry es)
+  putting k v [] = refl
+  putting k v (e ∷ es) =
+      elim (slice_cmp nat_cmp (vec_items k) (vec_items e.0)) as (λ o. map entry (match_ordering o ((k, v) ∷ e ∷ es) ((e.0, v) ∷ es) (e ∷ insert_entry (λ x y. slice_cmp nat_cmp (vec_items x) (vec_items y)) es k v))
+      ≡ by_order o ((vec_items k, shared v) ∷ map entry (e ∷ es)) ((vec_items e.0, shared v) ∷ map entry es) (entry e ∷ put (slice_cmp nat_cmp) (vec_items k) (shared v) (map entry es))) [
+        | Less ↦ refl
+        | Equal ↦ refl
+        | Greater ↦ ap (λ rest. entry e ∷ rest) (putting k v es)
+      ]
 
--- one entry more is read
-pub latest_more : (name : List ℕ) (entries : List Entry) (i : ℕ) (e : Entry) (same : Bool) (found next : Option Named) → i < length entries → e ≡ get_or entries i e → found ≡ latest name (take i entries) → Decides same (vec_items e.name ≡ name)
-    → next ≡ cond same (Some e.what) found → next ≡ latest name (take (i + 1) entries)
-latest_more name entries i e same found next lt is so_far told read =
-    read
-    ∙ ap₂ (λ b o. cond b (Some e.what) o) (decided same told) so_far
-    ∙ ap (read_entry name (latest name (take i entries))) is
-    ∙ sym (fold_more (read_entry name) None entries i e lt)
-  where
-    decided : (b : Bool) → Decides b (vec_items e.name ≡ name) → b ≡ bytes_eq (vec_items e.name) name
-    decided true d = sym ((bytes_eq-Decides (vec_items e.name) name).1 (d.0 refl))
-    decided false d = sym (not_same (vec_items e.name) name (λ h. let z : ◌≡◌ {A = ℕ} 0 1 = (let t = d.1 h in cc) in omega arith))
+  -- a map with a name more is read as the names with that one
+  pub read-insert : (m n : BTreeMap (Vec ℕ Y) (Named (Rc Part Z))) (k : Vec ℕ Y) (v : Named (Rc Part Z)) → n.entries ≡ insert_entry (λ x y. slice_cmp nat_cmp (vec_items x) (vec_items y)) m.entries k v → read n ≡ insert (read m) (vec_items k) (shared v)
+  read-insert m n k v is =
+      same_map nat_list_cmp_total (slice_cmp-IsAntisymmetric nat_cmp-IsAntisymmetric) (read n) (insert (read m) (vec_items k) (shared v)) (λ q.
+      get-from_entries nat_list_cmp_total (map entry n.entries) q
+      ∙ ap (find (slice_cmp nat_cmp) q) (ap (map entry) is ∙ putting k v m.entries)
+      ∙ find-put (slice_cmp nat_cmp) nat_list_cmp_total q (vec_items k) (shared v) (map entry m.entries)
+      ∙ sym (get-insert nat_list_cmp_total (read m) (vec_items k) (shared v) q ∙ ap (cond _ (Some (shared v))) (get-from_entries nat_list_cmp_total (map entry m.entries) q)))
+
+-- what a session's map has at a name, and after a name is given
+pub ruleset reading = (get-read, read-insert)

@@ -1,24 +1,33 @@
--- What a name stands for.
-use Rattle.std.specs.Prelude.{◌≡◌, ℕ, Bool, true, false, cond, List, is_some, Some, None, vec_items, fold, Option, ◌≢◌}
-use Rattle.std.specs.Str.{bytes_eq}
-use Rattle.console.specs.declared.session.Entry.{Entry}
-use Rattle.console.specs.declared.session.Named.{Named}
+-- What the names of a session stand for.
+use Rattle.std.specs.Prelude.{◌≡◌, ℕ, Bool, true, false, List, map, is_some, vec_items, Vec, MatchBool}
+use Rattle.std.specs.Ordering.{nat_cmp}
+use Rattle.std.specs.Cmp.Lexicographic.{slice_cmp}
+use Rattle.std.specs.FinMap.{FinMap, get, insert, from_entries}
+use Rattle.std.specs.BTreeMap.{BTreeMap}
+use Rattle.std.specs.declared.rc.Rc.{Rc}
+use Rattle.machines.specs.Automaton.{bare}
+use Rattle.console.specs.declared.part.Part.{Part}
+use Rattle.console.specs.declared.named.Named.{Named}
+use Rattle.console.specs.declared.named.Named.TheVariants as named
+use Rattle.console.specs.Stations.{part_automaton, shared}
 
--- the entry, where it has the name, and else what was found before
-abbrev pub read_entry : List ℕ → Option Named → Entry → Option Named
-read_entry name found e = cond (bytes_eq (vec_items e.name) name) (Some e.what) found
+-- each name with the part that it stands for, or the two parts of its pair
+abbrev pub Names : Type 0
+Names = FinMap (slice_cmp nat_cmp) (Named Part)
 
--- what the last entry with the name says
-abbrev pub latest : List ℕ → List Entry → Option Named
-latest name entries = fold (read_entry name) None entries
+module _ {Y Z : Type 0} where
+  -- a name and what it stands for, as a session keeps them
+  abbrev pub entry : Vec ℕ Y × Named (Rc Part Z) → List ℕ × Named Part
+  entry e = (vec_items e.0, shared e.1)
 
--- the entries after a name is given: it stands for what it was given, and other names for what they did; where memory
--- fails they are as they were
-abbrev pub Bound : Bool → List ℕ → Named → List Entry → List Entry → Type 0
-Bound true name what old new = (latest name new ≡ Some what) × ((other : List ℕ) → (other ≢ name) → latest other new ≡ latest other old)
-Bound false name what old new = new ≡ old
+  abbrev pub read : BTreeMap (Vec ℕ Y) (Named (Rc Part Z)) → Names
+  read m = from_entries (map entry m.entries)
 
--- the entries after a table is loaded: a refused file leaves a name that stands for something as it was
-abbrev pub Loaded : Bool → List ℕ → Named → List Entry → List Entry → Type 0
-Loaded true name what old new = Bound true name what old new
-Loaded false name what old new = cond (is_some (latest name old)) (new ≡ old) (Bound true name what old new)
+-- the names after a name is given to the bare table
+abbrev pub BareGiven : List ℕ → Names → Names → Type 0
+BareGiven name old new = (part : Part) × (part_automaton part ≡ bare) × (new ≡ insert old name (named.Part part))
+
+-- the names after a table is loaded: a refused file leaves a name that stands for something as it was
+abbrev pub Loaded : Bool → List ℕ → Part → Names → Names → Type 0
+Loaded true name table old new = new ≡ insert old name (named.Part table)
+Loaded false name table old new = MatchBool (is_some (get old name)) (new ≡ old) (BareGiven name old new)

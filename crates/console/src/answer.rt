@@ -1,12 +1,14 @@
 // What a machine that a script makes is answered.
-ghost use Rattle.console.specs.Stations.{ModelRead, Paired, PairReplayed, PartReplayed};
-ghost use Rattle.words.specs.Replays.{word_of};
+ghost use Rattle.console.specs.Stations.{ModelRead, Paired, named_automaton, part_automaton, shared};
+ghost use Rattle.words.specs.Replays.{word_of, Replayed};
 
+use crate::named::{Named, machine};
 use crate::part::{Part, station};
 use machines::machine::{Summary, summarize};
 use machines::refusal::Refusal;
 use models::table::Table;
 use pairs::pair::Pair;
+use std::rc::Rc;
 use words::replay::replay;
 use words::word::Letter;
 
@@ -14,14 +16,13 @@ use words::word::Letter;
 pub fn read_model(file: &[u8]) -> Result<(Summary, u32), Refusal>
     ensures { ModelRead file.now result }
 {
-    let mut table = Table::bare();
-    table.load(file)?;
+    let table = Table::read(file)?;
     Ok((summarize(&table), table.edges()))
 }
 
 // The numbers of the pair of the two parts, or why there is none.
 pub fn read_pair(left: &Part, right: &Part) -> Result<Summary, Refusal>
-    ensures { Paired left.now right.now result }
+    ensures { Paired (part_automaton left.now) (part_automaton right.now) result }
 {
     let left = station(left);
     let right = station(right);
@@ -29,16 +30,9 @@ pub fn read_pair(left: &Part, right: &Part) -> Result<Summary, Refusal>
     Ok(summarize(&Pair::new(left, right)))
 }
 
-// What the word is answered on the part's machine.
-pub fn replay_part(part: &Part, grid: u32, word: &[Letter]) -> Result<bool, Refusal>
-    ensures { PartReplayed part.now grid (word_of word.now) result }
+// What the word is answered on the machine that the name stands for.
+pub fn replay_named(named: &Named<Rc<Part>>, grid: u32, word: &[Letter]) -> Result<bool, Refusal>
+    ensures { Replayed (named_automaton (shared named.now)) grid (word_of word.now) result }
 {
-    replay(&station(part), grid, word)
-}
-
-// What the word is answered on the pair of the two parts.
-pub fn replay_pair(left: &Part, right: &Part, grid: u32, word: &[Letter]) -> Result<bool, Refusal>
-    ensures { PairReplayed left.now right.now grid (word_of word.now) result }
-{
-    replay(&Pair::new(station(left), station(right)), grid, word)
+    replay(&machine(named), grid, word)
 }

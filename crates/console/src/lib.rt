@@ -2,6 +2,6 @@
 #![tactic(auto)]
 
 pub mod answer;
+pub mod named;
 pub mod part;
 pub mod session;
-pub mod sign;

@@ -1,87 +1,77 @@
 // The names of a script and what they stand for.
-ghost use Rattle.std.specs.Prelude.{◌≡◌, [], ◌∷◌, ◌++◌, is_ok, IfOk, vec_len, OnOk};
-ghost use Rattle.std.specs.List.{slice_get};
-ghost use Rattle.std.specs.Option.{option_map};
+ghost use Rattle.std.specs.Prelude.{◌≡◌, is_ok, IfOk, OnOk, OnErr};
+ghost use Rattle.std.specs.Option.{option_map, option_copied};
+ghost use Rattle.std.specs.FinMap.{empty, get, insert};
 ghost use Rattle.console.specs.Stations.{ModelRead};
-ghost use Rattle.console.specs.Names.{latest, Bound, Loaded};
 
 use crate::answer::read_model;
+use crate::named::Named;
 use crate::part::Part;
 use machines::machine::Summary;
 use machines::refusal::Refusal;
 use std::alloc::{AllocError, Global};
-
-// A table or a deadline, or the pair of two, by their numbers.
-#[derive(Clone, Copy)]
-pub enum Named {
-    Part(usize),
-    Pair(usize, usize),
-}
-
-#[derive(Drop)]
-pub struct Entry {
-    name: Vec<u8>,
-    what: Named,
-}
+use std::collections::BTreeMap;
+use std::marker::Model;
+use std::rc::Rc;
 
 // A name may be given again, and then stands for what it was given last; a pair keeps the parts that it was made of.
 #[derive(Drop)]
 pub struct Session {
-    parts: Vec<Part>,
-    entries: Vec<Entry>,
+    names: BTreeMap<Vec<u8>, Named<Rc<Part>>>,
+}
+
+impl Model for Session {
+    ghost use Rattle.console.specs.Names.{Names, read};
+    ghost use Rattle.std.specs.FinMap.{code};
+    ghost use Rattle.std.specs.Coded.{coded_list, coded_ℕ};
+    ghost use Rattle.console.specs.contracts.part.Part as part;
+    ghost use Rattle.console.specs.contracts.named.Named as named;
+
+    ghost Value = { Names };
+
+    ghost coded = { code (coded_list coded_ℕ) (named.the_row part.the_row).coded };
+
+    ghost view = { λ s. read s.names };
 }
 
 impl Session {
+    ghost use Rattle.console.specs.Stations.{shared};
+    ghost use Rattle.console.specs.Names.{Loaded};
+
     pub fn new(heap: Global) -> Session
-        ensures { (result.parts.items ≡ []) × (result.entries.items ≡ []) }
+        ensures { result ≡ empty }
     {
         Session {
-            parts: Vec::new(heap),
-            entries: Vec::new(heap),
+            names: BTreeMap::new(heap),
         }
     }
 
     // What the name stands for.
-    pub fn find(&self, name: &[u8]) -> Option<Named>
-        ensures { result ≡ latest name.now self.now.entries.items }
+    #[tactic(auto, using(crate::proofs::Entries::reading))]
+    pub fn find(&self, name: &[u8]) -> Option<&Named<Rc<Part>>>
+        ensures { option_map shared (option_copied result) ≡ get self.now name.now }
     {
-        let mut found = None;
-        for e in self.entries.iter() {
-            if e.name.as_slice() == name {
-                found = Some(e.what);
-            }
-        }
-        found
+        self.names.get(name)
     }
 
-    // The part of this number.
-    pub fn part(&self, i: usize) -> Option<&Part>
-        ensures { option_map (λ x. x.now) result ≡ slice_get self.now.parts.items i }
-    {
-        if i >= self.parts.len() {
-            return None;
-        }
-        Some(&self.parts[i])
-    }
-
-    // Gives the name to what there is.
-    fn bind(&mut self, heap: Global, name: &[u8], what: Named) -> Result<(), AllocError>
-        ensures parts { self.new.parts.items ≡ self.old.parts.items }
-        ensures names { Bound (is_ok result) name.now what self.old.entries.items self.new.entries.items }
+    // Gives the name to what there is. Where memory fails no name changes.
+    #[tactic(auto, using(crate::proofs::Entries::reading))]
+    fn bind(&mut self, heap: Global, name: &[u8], what: Named<Rc<Part>>) -> Result<(), AllocError>
+        ensures ok { OnOk result (self.new ≡ insert self.old name.now (shared what)) }
+        ensures err { OnErr result (self.new ≡ self.old) }
     {
         let name = Vec::from_slice(heap, name)?;
-        self.entries.push(Entry { name, what })?;
+        self.names.insert(name, what)?;
         Ok(())
     }
 
     // Gives the name to a new part. Where memory fails no name changes.
     pub fn define(&mut self, heap: Global, name: &[u8], part: Part) -> Result<(), AllocError>
-        ensures parts { OnOk result (self.new.parts.items ≡ self.old.parts.items ++ part ∷ []) }
-        ensures names { Bound (is_ok result) name.now (Named.Part (vec_len self.old.parts)) self.old.entries.items self.new.entries.items }
+        ensures ok { OnOk result (self.new ≡ insert self.old name.now (Named.Part part)) }
+        ensures err { OnErr result (self.new ≡ self.old) }
     {
-        let number = self.parts.len();
-        self.parts.push(part)?;
-        self.bind(heap, name, Named::Part(number))
+        let part = Rc::new(heap, part)?;
+        self.bind(heap, name, Named::Part(part))
     }
 
     // Loads a table under the name and answers its numbers. Where the file is refused the name stands for what it did, and a
@@ -93,28 +83,101 @@ impl Session {
         file: Vec<u8>,
     ) -> Result<Result<(Summary, u32), Refusal>, AllocError>
         ensures answer { IfOk result (λ a. ModelRead file.items a) }
-        ensures names { IfOk result (λ a. Loaded (is_ok a) name.now (Named.Part (vec_len self.old.parts)) self.old.entries.items self.new.entries.items) }
+        ensures names { IfOk result (λ a. Loaded (is_ok a) name.now (Part.Table file) self.old self.new) }
+        ensures err { OnErr result (self.new ≡ self.old) }
     {
-        let answer = read_model(file.as_slice());
-        if answer.is_ok() {
-            self.define(heap, name, Part::Table(file))?;
-        } else if self.find(name).is_none() {
-            self.define(heap, name, Part::Table(Vec::new(heap)))?;
+        match read_model(file.as_slice()) {
+            Ok(numbers) => {
+                self.define(heap, name, Part::Table(file))?;
+                Ok(Ok(numbers))
+            }
+            Err(why) if self.find(name).is_some() => Ok(Err(why)),
+            Err(why) => {
+                self.define(heap, name, Part::bare(heap))?;
+                Ok(Err(why))
+            }
         }
-        Ok(answer)
     }
 
-    // Gives the name to the pair of two parts. Where memory fails nothing changes.
+    // Gives the name to the pair of two parts. Where memory fails no name changes.
     pub fn join(
         &mut self,
         heap: Global,
         name: &[u8],
-        left: usize,
-        right: usize,
+        left: Rc<Part>,
+        right: Rc<Part>,
     ) -> Result<(), AllocError>
-        ensures parts { self.new.parts.items ≡ self.old.parts.items }
-        ensures names { Bound (is_ok result) name.now (Named.Pair left right) self.old.entries.items self.new.entries.items }
+        ensures ok { OnOk result (self.new ≡ insert self.old name.now (Named.Pair left.value right.value)) }
+        ensures err { OnErr result (self.new ≡ self.old) }
     {
         self.bind(heap, name, Named::Pair(left, right))
+    }
+}
+
+#[cfg(test)]
+mod tests {
+    use super::*;
+    use crate::named::machine;
+    use machines::deadline::Deadline;
+    use machines::machine::Machine;
+    use std::test::Fail;
+
+    // A model file of so many locations and no edge.
+    fn model(heap: Global, locations: u8) -> Result<Vec<u8>, AllocError> {
+        Vec::from_slice(heap, &[8, 0, 1, 0, locations, 0, 0, 0])
+    }
+
+    // How many locations the machine with the name has.
+    fn locations(session: &Session, name: &[u8]) -> Option<u32> {
+        session.find(name).map(|named| machine(named).locations())
+    }
+
+    // The part with the name.
+    fn part(session: &Session, name: &[u8]) -> Result<Rc<Part>, Fail> {
+        match session.find(name) {
+            Some(Named::Part(part)) => Ok(part.clone()?),
+            _ => Err("no part".into()),
+        }
+    }
+
+    #[test]
+    fn names_are_given(rt: HostRuntime) -> Result<(), Fail> {
+        let heap = rt.alloc();
+        let mut session = Session::new(heap);
+        assert_eq!(rt; locations(&session, b"door"), None);
+        session.load(heap, b"door", model(heap, 3)?)??;
+        session.define(heap, b"rule", Part::Deadline(Deadline::new(0, 1, 3, 5)?))?;
+        let door = part(&session, b"door")?;
+        let rule = part(&session, b"rule")?;
+        session.join(heap, b"ruled", door, rule)?;
+        assert_eq!(rt; locations(&session, b"door"), Some(3));
+        assert_eq!(rt; locations(&session, b"rule"), Some(2));
+        assert_eq!(rt; locations(&session, b"ruled"), Some(6));
+        Ok(())
+    }
+
+    #[test]
+    fn a_pair_keeps_its_parts(rt: HostRuntime) -> Result<(), Fail> {
+        let heap = rt.alloc();
+        let mut session = Session::new(heap);
+        session.load(heap, b"door", model(heap, 3)?)??;
+        let door = part(&session, b"door")?;
+        session.join(heap, b"both", door.clone()?, door)?;
+        session.load(heap, b"door", model(heap, 5)?)??;
+        assert_eq!(rt; locations(&session, b"door"), Some(5));
+        assert_eq!(rt; locations(&session, b"both"), Some(9));
+        Ok(())
+    }
+
+    #[test]
+    fn a_refused_file_leaves_the_name(rt: HostRuntime) -> Result<(), Fail> {
+        let heap = rt.alloc();
+        let mut session = Session::new(heap);
+        session.load(heap, b"door", model(heap, 3)?)??;
+        assert!(rt; session.load(heap, b"door", model(heap, 0)?)?.is_err());
+        assert!(rt; session.load(heap, b"shear", model(heap, 0)?)?.is_err());
+        assert_eq!(rt; locations(&session, b"door"), Some(3));
+        assert_eq!(rt; locations(&session, b"shear"), Some(1));
+        Ok(())
     }
 }

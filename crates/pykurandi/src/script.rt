@@ -1,8 +1,6 @@
 // A script, line by line.
-use crate::lines::obey;
+use crate::lines::Console;
 use crate::trouble::Trouble;
-use console::session::Session;
-use scripts::text::next_line;
 use std::io::Read;
 use std::{env, fs};
 
@@ -22,18 +20,13 @@ fn read_script(rt: &HostRuntime) -> anyhow::Result<Vec<u8>> {
 
 pub fn run(rt: &HostRuntime) -> anyhow::Result<()> {
     let script = read_script(rt)?;
-    let mut session = Session::new(rt.alloc());
-    let mut number: u64 = 0;
-    let mut rest = script.as_slice();
-    while !rest.is_empty() {
-        let (line, after) = next_line(rest);
-        number = number.saturating_add(1);
-        match obey(rt, &mut session, line) {
-            Ok(()) => {}
+    let mut console = Console::new(rt);
+    for (i, line) in script.as_slice().split(|b| *b == b'\n').enumerate() {
+        let number = i + 1;
+        match console.obey(line) {
             Err(Trouble::Fault(fault)) => println!(rt; "line {number}: error: {fault}")?,
-            Err(Trouble::Output(e)) => return Err(e.into()),
+            done => done?,
         }
-        rest = after;
     }
     Ok(())
 }

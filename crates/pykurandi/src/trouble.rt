@@ -2,29 +2,20 @@
 use scripts::fault::Fault;
 use std::alloc::AllocError;
 use std::io;
+use thiserror::Error;
 
-#[derive(Drop)]
+#[derive(Debug, Drop, Error)]
 pub enum Trouble {
     // The script goes on with the next line.
-    Fault(Fault),
+    #[error(transparent)]
+    Fault(#[from] Fault),
     // Nothing more can be printed.
-    Output(io::Error),
-}
-
-impl From<Fault> for Trouble {
-    fn from(fault: Fault) -> Trouble {
-        Trouble::Fault(fault)
-    }
+    #[error(transparent)]
+    Output(#[from] io::Error),
 }
 
 impl From<AllocError> for Trouble {
-    fn from(_e: AllocError) -> Trouble {
-        Trouble::Fault(Fault::Memory)
-    }
-}
-
-impl From<io::Error> for Trouble {
-    fn from(e: io::Error) -> Trouble {
-        Trouble::Output(e)
+    fn from(e: AllocError) -> Trouble {
+        Trouble::Fault(e.into())
     }
 }
