@@ -5,11 +5,11 @@ use Rattle.std.specs.Cmp.Lexicographic.{slice_cmp}
 use Rattle.std.specs.FinMap.{FinMap, get, insert, from_entries}
 use Rattle.std.specs.BTreeMap.{BTreeMap}
 use Rattle.std.specs.declared.rc.Rc.{Rc}
-use Rattle.machines.specs.Automaton.{bare}
 use Rattle.console.specs.declared.part.Part.{Part}
+use Rattle.console.specs.declared.part.Part.TheVariants.{Bare}
 use Rattle.console.specs.declared.named.Named.{Named}
 use Rattle.console.specs.declared.named.Named.TheVariants as named
-use Rattle.console.specs.Stations.{part_automaton, shared}
+use Rattle.console.specs.Stations.{shared}
 
 -- each name with the part that it stands for, or the two parts of its pair
 abbrev pub Names : Type 0
@@ -23,11 +23,7 @@ module _ {Y Z : Type 0} where
   abbrev pub read : BTreeMap (Vec ℕ Y) (Named (Rc Part Z)) → Names
   read m = from_entries (map entry m.entries)
 
--- the names after a name is given to the bare table
-abbrev pub BareGiven : List ℕ → Names → Names → Type 0
-BareGiven name old new = (part : Part) × (part_automaton part ≡ bare) × (new ≡ insert old name (named.Part part))
-
--- the names after a table is loaded: a refused file leaves a name that stands for something as it was
+-- the names after a table is loaded: a refused file leaves a name that stands for something as it was, and gives a new one to the bare location
 abbrev pub Loaded : Bool → List ℕ → Part → Names → Names → Type 0
 Loaded true name table old new = new ≡ insert old name (named.Part table)
-Loaded false name table old new = MatchBool (is_some (get old name)) (new ≡ old) (BareGiven name old new)
+Loaded false name table old new = MatchBool (is_some (get old name)) (new ≡ old) (new ≡ insert old name (named.Part Bare))

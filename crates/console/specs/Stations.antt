@@ -22,6 +22,7 @@ use Rattle.console.specs.declared.named.Named.TheVariants as named
 
 -- the automaton that the file or the deadline says; one bare location where the file is refused
 abbrev pub part_automaton : Part → Automaton
+part_automaton part.Bare = bare
 part_automaton (part.Table file) = cond (is_ok (verdict (vec_items file))) (model (vec_items file)) bare
 part_automaton (part.Deadline d) = deadline d.a d.b d.m d.c
 

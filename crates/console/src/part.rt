@@ -1,28 +1,33 @@
 // A machine as a script gives it, and the machine itself.
 ghost use Rattle.std.specs.Prelude.{◌≡◌};
 ghost use Rattle.machines.specs.Automaton.{bare};
+ghost use Rattle.machines.specs.Deadline.{deadline, DeadlineArguments};
 ghost use Rattle.console.specs.Stations.{part_automaton, station_automaton};
 
 use machines::choice::Choice;
 use machines::deadline::Deadline;
 use models::table::Table;
-use std::alloc::Global;
 
 // What a table or a deadline is made from.
 #[derive(Drop)]
 pub enum Part {
+    // One bare location.
+    Bare,
     // A model file; the table is bare where it is refused.
     Table(Vec<u8>),
     Deadline(Deadline),
 }
 
 impl Part {
-    // The bare table, whose file is empty.
-    #[tactic(auto, unfolding(models::specs::Format::verdict))]
-    pub fn bare(heap: Global) -> Part
-        ensures { part_automaton result ≡ bare }
+    // The deadline of these numbers, or the bare location where they are refused.
+    pub fn deadline(a: u8, b: u8, m: u32, c: u32) -> Part
+        ensures lawful { DeadlineArguments a b m c → part_automaton result ≡ deadline a b m c }
+        ensures refused { (DeadlineArguments a b m c → ⊥) → part_automaton result ≡ bare }
     {
-        Part::Table(Vec::new(heap))
+        match Deadline::new(a, b, m, c) {
+            Ok(deadline) => Part::Deadline(deadline),
+            Err(_) => Part::Bare,
+        }
     }
 }
 
@@ -34,6 +39,7 @@ pub fn station<'a>(part: &'a Part) -> Station<'a>
     ensures { station_automaton result ≡ part_automaton part.now }
 {
     match part {
+        Part::Bare => Choice::First(Table::bare()),
         Part::Table(file) => {
             Choice::First(Table::read(file.as_slice()).unwrap_or(Table::bare()))
         }

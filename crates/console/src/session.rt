@@ -93,7 +93,7 @@ impl Session {
             }
             Err(why) if self.find(name).is_some() => Ok(Err(why)),
             Err(why) => {
-                self.define(heap, name, Part::bare(heap))?;
+                self.define(heap, name, Part::Bare)?;
                 Ok(Err(why))
             }
         }
