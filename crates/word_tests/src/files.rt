@@ -7,7 +7,13 @@ pub fn head(heap: Global, locations: u8, clocks: u8) -> Result<Vec<u8>, AllocErr
 }
 
 // One edge more, with no atom.
-pub fn add_edge(file: &mut Vec<u8>, from: u8, to: u8, label: u8, resets: u8) -> Result<(), AllocError> {
+pub fn add_edge(
+    file: &mut Vec<u8>,
+    from: u8,
+    to: u8,
+    label: u8,
+    resets: u8,
+) -> Result<(), AllocError> {
     file.extend_from_slice(&[12, 0, 2, 0, from, 0, to, 0, label, resets, 0, 0])
 }
 
