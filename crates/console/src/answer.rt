@@ -1,8 +1,9 @@
 // What a machine that a script makes is answered.
 ghost use Rattle.console.specs.Stations.{ModelRead, Paired, named_automaton, part_automaton, shared};
+ghost use Rattle.pairs.specs.Product.{pair_of};
 ghost use Rattle.words.specs.Replays.{word_of, Replayed};
 
-use crate::named::{Named, machine};
+use crate::named::Named;
 use crate::part::{Part, station};
 use machines::machine::{Summary, summarize};
 use machines::refusal::Refusal;
@@ -30,9 +31,26 @@ pub fn read_pair(left: &Part, right: &Part) -> Result<Summary, Refusal>
     Ok(summarize(&Pair::new(left, right)))
 }
 
+// What the word is answered on the part's machine.
+pub fn replay_part(part: &Part, grid: u32, word: &[Letter]) -> Result<bool, Refusal>
+    ensures { Replayed (part_automaton part.now) grid (word_of word.now) result }
+{
+    replay(&station(part), grid, word)
+}
+
+// What the word is answered on the pair of the two parts.
+pub fn replay_pair(left: &Part, right: &Part, grid: u32, word: &[Letter]) -> Result<bool, Refusal>
+    ensures { Replayed (pair_of (part_automaton left.now) (part_automaton right.now)) grid (word_of word.now) result }
+{
+    replay(&Pair::new(station(left), station(right)), grid, word)
+}
+
 // What the word is answered on the machine that the name stands for.
 pub fn replay_named(named: &Named<Rc<Part>>, grid: u32, word: &[Letter]) -> Result<bool, Refusal>
     ensures { Replayed (named_automaton (shared named.now)) grid (word_of word.now) result }
 {
-    replay(&machine(named), grid, word)
+    match named {
+        Named::Part(part) => replay_part(part, grid, word),
+        Named::Pair(left, right) => replay_pair(left, right, grid, word),
+    }
 }

@@ -30,7 +30,7 @@ pub enum Fault {
     File,
 }
 
-// Written by hand, since a derived message has no contract.
+// A derived message would have no contract.
 impl fmt::Display for Fault {
     ghost output = { λ fault. Some (message fault) };
 
@@ -52,7 +52,7 @@ impl fmt::Display for Fault {
 
 impl Error for Fault {}
 
-// These are written by hand, since clauses say which fault `?` makes of another error.
+// Clauses say which fault `?` makes of another error, and a derived conversion has none.
 impl From<AllocError> for Fault {
     ghost from_gives = { λ _ r. r ≡ Memory };
 

@@ -1,4 +1,7 @@
 use Rattle.console.proofs.answer.replay_named.Goals as goal
 
-pub returns : goal.returns
-returns c = rw (← c.machine.ensures) c.replay.ensures
+pub returns-in-Part : goal.returns-in-Part
+returns-in-Part c = ?
+
+pub returns-in-Pair : goal.returns-in-Pair
+returns-in-Pair c = ?
