@@ -3,9 +3,10 @@ ghost use Rattle.std.specs.Prelude.{◌≡◌, if◌then◌else◌};
 ghost use Rattle.machines.specs.declared.choice.Choice.TheVariants.{First, Second};
 
 use crate::atom::Atom;
-use crate::machine::Machine;
+use crate::machine::{Head, Machine};
 
 // A machine whose kind is known only as the program runs.
+// Not the library's Either: callers match on first and second.
 #[derive(Clone, Copy, PartialEq, Eq, Debug, Drop)]
 pub enum Choice<A, B> {
     First(A),
@@ -25,6 +26,7 @@ impl<A: Drop, B: Drop> Choice<A, B> {
     }
 }
 
+// A match each: a macro for the seven would be no plainer.
 impl<A: Machine, B: Machine> Machine for Choice<A, B> {
     ghost meaning = { elim [ First m ↦ A.Machine.meaning m | Second m ↦ B.Machine.meaning m ] };
 
@@ -65,7 +67,7 @@ impl<A: Machine, B: Machine> Machine for Choice<A, B> {
         }
     }
 
-    fn edge_head(&self, location: u32, k: u32) -> Option<(u8, u32, u8, u32)> {
+    fn edge_head(&self, location: u32, k: u32) -> Option<Head> {
         match self {
             Choice::First(m) => m.edge_head(location, k),
             Choice::Second(m) => m.edge_head(location, k),

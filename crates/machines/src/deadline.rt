@@ -6,7 +6,7 @@ ghost use Rattle.machines.specs.Laws.Deadlines.{deadline_lawful};
 
 use crate::atom::Atom;
 use crate::comparison::Comparison;
-use crate::machine::Machine;
+use crate::machine::{Head, Machine};
 use crate::mask::{has_label, kth_label};
 use crate::refusal::Refusal;
 
@@ -64,7 +64,7 @@ impl Machine for Deadline {
         }
     }
 
-    fn edge_head(&self, location: u32, k: u32) -> Option<(u8, u32, u8, u32)> {
+    fn edge_head(&self, location: u32, k: u32) -> Option<Head> {
         let label = kth_label(self.m, k)?;
         match location {
             0 if label == self.a => Some((label, 1, 1, 0)),

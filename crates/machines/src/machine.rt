@@ -6,6 +6,9 @@ ghost use Rattle.machines.specs.Comparisons.{numbers_of};
 
 use crate::atom::Atom;
 
+// The label, target, resets and number of atoms of an edge.
+pub type Head = (u8, u32, u8, u32);
+
 pub trait Machine {
     // The automaton that the machine is.
     ghost meaning: { Self → Automaton };
@@ -28,8 +31,8 @@ pub trait Machine {
     fn edge_count(&self, location: u32) -> Option<u32>
         ensures { result ≡ edge_count (meaning self.now) location };
 
-    // The label, target, resets and number of atoms of the k-th edge that leaves `location`.
-    fn edge_head(&self, location: u32, k: u32) -> Option<(u8, u32, u8, u32)>
+    // The head of the k-th edge that leaves `location`.
+    fn edge_head(&self, location: u32, k: u32) -> Option<Head>
         ensures { result ≡ head_at (meaning self.now) location k };
 
     // That edge's atom `i`.
