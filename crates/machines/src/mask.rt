@@ -18,13 +18,7 @@ pub fn has_label(mask: u32, label: u8) -> bool
 pub fn kth_label(mask: u32, k: u32) -> Option<u8>
     ensures { result ≡ slice_get (labels_in mask) k }
 {
-    let count = mask.count_ones();
-    if k >= count {
-        return None;
-    }
-    let mut rest = mask;
-    for _ in 0..k {
-        rest &= rest - 1;
-    }
-    Some(rest.trailing_zeros() as u8)
+    (0..32)
+        .filter(|label| has_label(mask, *label))
+        .nth(k as usize)
 }
