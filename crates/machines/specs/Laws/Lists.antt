@@ -1,7 +1,10 @@
 -- Lists read by place.
 use Rattle.std.specs.Prelude.{◌≡◌, ℕ, zero, suc, ◌≤◌, Bool, true, false, cond, List, [], ◌∷◌, ◌++◌, map, length, Some, filter, refl}
 use Rattle.std.proofs.Common.{ap, subst, ◌∙◌, arith}
-use Rattle.std.specs.List.{slice_get, flat_map, AllByRecursion}
+use Rattle.std.proofs.lemmas.List.Elements.{All-get_or, All-from_recursion}
+use Rattle.std.proofs.lemmas.List.Sums.{length-filter, count_by-le-length}
+use Rattle.std.proofs.lemmas.Option.{slice_get_within, get_or_from_slice_get}
+use Rattle.std.specs.List.{slice_get, flat_map, All, AllByRecursion}
 
 -- an element of a mapped list comes from one of the list
 pub from_map : {X Y : Type 0} (f : X → Y) (xs : List X) (k : ℕ) (y : Y) → slice_get (map f xs) k ≡ Some y → (x : X) × (slice_get xs k ≡ Some x) × (f x ≡ y)
@@ -9,10 +12,12 @@ from_map f [] k y e = absurd (let z : ◌≡◌ {A = ℕ} 0 1 = cc in omega arit
 from_map f (x ∷ xs) zero y e = (x, refl, cc)
 from_map f (x ∷ xs) (suc k) y e = from_map f xs k y e
 
+-- what is true of each element is true of that at a place
+pub all_at : {X : Type 0} (P : X → Type 0) (xs : List X) (k : ℕ) (x : X) → All P xs → slice_get xs k ≡ Some x → P x
+all_at P xs k x a e = subst P (get_or_from_slice_get xs k x x e) (All-get_or P xs k x (slice_get_within xs k x e) a)
+
 pub all_nth : {X : Type 0} (P : X → Type 0) (xs : List X) (k : ℕ) (x : X) → AllByRecursion P xs → slice_get xs k ≡ Some x → P x
-all_nth P [] k x a e = absurd (let z : ◌≡◌ {A = ℕ} 0 1 = cc in omega arith)
-all_nth P (y ∷ xs) zero x a e = let same : y ≡ x = cc in subst P same a.0
-all_nth P (y ∷ xs) (suc k) x a e = all_nth P xs k x a.1 e
+all_nth P xs k x a e = all_at P xs k x (All-from_recursion P xs a) e
 
 pub nth_all : {X : Type 0} (P : X → Type 0) (xs : List X) → ((k : ℕ) (x : X) → slice_get xs k ≡ Some x → P x) → AllByRecursion P xs
 nth_all P [] h = tt
@@ -56,9 +61,4 @@ stands_joined f (a ∷ xs) x y zero e h =
 stands_joined f (a ∷ xs) x y (suc k) e h = stands_right (f a) (flat_map f xs) y (stands_joined f xs x y k e h)
 
 pub length-kept : {X : Type 0} (p : X → Bool) (xs : List X) → length (filter p xs) ≤ length xs
-length-kept p [] = omega arith
-length-kept p (x ∷ xs) = go (p x) (length-kept p xs)
-  where
-    go : (b : Bool) → length (filter p xs) ≤ length xs → length (cond b (x ∷ filter p xs) (filter p xs)) ≤ suc (length xs)
-    go true h = omega arith
-    go false h = omega arith
+length-kept p xs = omega (arith, length-filter p xs, count_by-le-length p xs)
