@@ -57,11 +57,7 @@ impl Machine for Deadline {
     }
 
     fn edge_count(&self, location: u32) -> Option<u32> {
-        if location < LOCATIONS {
-            Some(self.m.count_ones())
-        } else {
-            None
-        }
+        (location < LOCATIONS).then_some(self.m.count_ones())
     }
 
     fn edge_head(&self, location: u32, k: u32) -> Option<Head> {
@@ -77,6 +73,7 @@ impl Machine for Deadline {
 
     fn atom(&self, location: u32, k: u32, i: u32) -> Option<Atom> {
         let count = self.m.count_ones();
+        // An `if` keeps the three tests apart for the proof; `then_some` would join them into one value.
         if location == 1 && k < count && i == 0 {
             Some(Atom {
                 clock: 0,

@@ -1,9 +1,11 @@
 -- What the deadline automaton answers, and that it is lawful.
-use Rattle.std.specs.Prelude.{◌≡◌, ℕ, zero, suc, ◌^◌, ◌<◌, ◌≤◌, Bool, true, false, cond, [], ◌∷◌, length, Some, None, Option, ◌==◌, ◌≢◌, count_ones, refl}
+use Rattle.std.specs.Prelude.{◌≡◌, ℕ, zero, suc, ◌^◌, ◌<◌, ◌≤◌, Bool, true, false, cond, [], ◌∷◌, length, Some, None, Option, ◌==◌, ◌≢◌, count_ones, nat_lt, refl}
 use Rattle.std.proofs.Common.{sym, ap, subst, ◌∙◌, arith}
 use Rattle.std.proofs.lemmas.Nat.{ones-le}
 use Rattle.std.proofs.lemmas.List.{length-map}
 use Rattle.std.proofs.lemmas.Option.{slice_get-get_or, slice_get-map, slice_get_within}
+use Rattle.std.proofs.lemmas.Bool.{le-ltb}
+use Rattle.std.specs.Bool.{then_some}
 use Rattle.std.specs.List.{slice_get}
 use Rattle.std.specs.Option.{option_map}
 use Rattle.machines.specs.Automaton.{Atom, Edge, edge_at, LawfulAtom, LawfulEdge, Lawful, Carried, leaving, edge_count, atom_of, atom_at}
@@ -79,10 +81,10 @@ module _ (a b m c : ℕ) (ok : DeadlineArguments a b m c) where
   }
 
 module _ (a b m c : ℕ) where
-  pub count_answer : m < 2 ^ 32 → (l : ℕ) → l < 2 → Some (count_ones m) ≡ edge_count (deadline a b m c) l
-  count_answer small zero h = ap (λ n. Some n) (sym (length-map (labels_in m) (idle_edge a) ∙ length-labels m small))
-  count_answer small (suc zero) h = ap (λ n. Some n) (sym (length-map (labels_in m) (armed_edge b c) ∙ length-labels m small))
-  count_answer small (suc (suc l)) h = absurd (omega arith)
+  pub count_answer : m < 2 ^ 32 → (l : ℕ) → then_some (nat_lt l 2) (count_ones m) ≡ edge_count (deadline a b m c) l
+  count_answer small zero = ap (λ n. Some n) (sym (length-map (labels_in m) (idle_edge a) ∙ length-labels m small))
+  count_answer small (suc zero) = ap (λ n. Some n) (sym (length-map (labels_in m) (armed_edge b c) ∙ length-labels m small))
+  count_answer small (suc (suc l)) = rw (le-ltb (suc (suc l)) 2 (omega arith)) refl
 
   pub atom_answer : m < 2 ^ 32 → (l k i : ℕ) → l ≡ 1 → k < count_ones m → i ≡ 0 → Some (0, 1, c) ≡ atom_at (deadline a b m c) l k i
   atom_answer small l k i here some first =
