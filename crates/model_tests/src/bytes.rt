@@ -1,5 +1,6 @@
-// Files in words. A function here answers `None` where a word is not read, or no memory is left.
+// Files in words. A function here fails where a word is not read, or no memory is left.
 use std::alloc::Global;
+use std::test::Fail;
 
 // A head of 1 location and no clock.
 static ONE: [u8; 8] = [8, 0, 1, 0, 1, 0, 0, 0];
@@ -33,23 +34,23 @@ fn named(word: &str) -> Option<&'static [u8]> {
 }
 
 // Appends what the word stands for: a name's bytes, as often as a number and `*` before it say, or one byte in hexadecimal.
-fn add_word(file: &mut Vec<u8>, word: &str) -> Option<()> {
+fn add_word(file: &mut Vec<u8>, word: &str) -> Result<(), Fail> {
     let (times, name) = word.split_once('*').unwrap_or(("1", word));
     let Some(bytes) = named(name) else {
-        let byte = u8::from_str_radix(word, 16).ok()?;
-        return file.push(byte).ok();
+        file.push(u8::from_str_radix(word, 16)?)?;
+        return Ok(());
     };
-    for _ in 0..times.parse::<u32>().ok()? {
-        file.extend_from_slice(bytes).ok()?;
+    for _ in 0..times.parse::<u32>()? {
+        file.extend_from_slice(bytes)?;
     }
-    Some(())
+    Ok(())
 }
 
 // The file that the words write, one after the other.
-pub fn build(heap: Global, words: &str) -> Option<Vec<u8>> {
+pub fn build(heap: Global, words: &str) -> Result<Vec<u8>, Fail> {
     let mut file = Vec::new(heap);
     for word in words.split_ascii_whitespace() {
         add_word(&mut file, word)?;
     }
-    Some(file)
+    Ok(file)
 }

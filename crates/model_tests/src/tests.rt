@@ -10,7 +10,7 @@ use std::test::Fail;
 
 // Each row is read after a good file.
 fn run(rt: &impl Abort, heap: Global, rows: &str) -> Result<(), Fail> {
-    let good = build(heap, SEVERAL.words).ok_or("no file")?;
+    let good = build(heap, SEVERAL.words)?;
     check_rows(rt, heap, good.as_slice(), rows)
 }
 

@@ -49,27 +49,15 @@ impl Record<'_> {
     {
         self.size() as usize == 12 + 8 * self.count() as usize
             && self.spare() == 0
-            && self.atoms_have_shape()
-    }
-
-    fn atoms_have_shape(&self) -> bool
-        ensures { result ≡ each_atom atom_has_shape self.now.bytes.now self.now.at (count_of self.now.bytes.now self.now.at) }
-    {
-        let count = self.count();
-        (0..count).all(|i| self.atom(i).has_shape())
+            && (0..self.count()).all(|i| self.atom(i).has_shape())
     }
 
     fn edge_in_range(&self) -> bool
         ensures { result ≡ edge_in_range self.now.bytes.now self.now.at }
     {
-        self.label() <= 31 && self.count() <= 4 && self.atoms_in_range()
-    }
-
-    fn atoms_in_range(&self) -> bool
-        ensures { result ≡ each_atom atom_in_range self.now.bytes.now self.now.at (count_of self.now.bytes.now self.now.at) }
-    {
-        let count = self.count();
-        (0..count).all(|i| self.atom(i).in_range())
+        self.label() <= 31
+            && self.count() <= 4
+            && (0..self.count()).all(|i| self.atom(i).in_range())
     }
 
     fn edge_is_known(&self) -> bool
@@ -79,7 +67,7 @@ impl Record<'_> {
         self.from() < locations
             && self.to() < locations
             && self.resets_are_known()
-            && self.atoms_are_known()
+            && (0..self.count()).all(|i| self.atom(i).is_known())
     }
 
     fn resets_are_known(&self) -> bool
@@ -90,14 +78,7 @@ impl Record<'_> {
         (self.resets() as u32) < 1 << clocks
     }
 
-    fn atoms_are_known(&self) -> bool
-        ensures { result ≡ each_atom atom_is_known self.now.bytes.now self.now.at (count_of self.now.bytes.now self.now.at) }
-    {
-        let count = self.count();
-        (0..count).all(|i| self.atom(i).is_known())
-    }
-
-    // Where `room` more edges may come, and the edge before it leaves `previous`.
+    // Why the edge is refused, where `room` more may come and the edge before it leaves `previous`.
     #[tactic(auto, unfolding(crate::specs::Format::edge_verdict))]
     fn check_edge(&self, room: usize, previous: u16) -> Result<(), Refusal>
         ensures { result ≡ edge_verdict self.now.bytes.now self.now.at room previous }

@@ -7,7 +7,7 @@ use crate::head;
 use crate::record::Record;
 use arrayvec::ArrayVec;
 
-// The places of edges, of which no file has more.
+// The places of edges; no file has more than these.
 pub(crate) type Places = ArrayVec<u32, 1024>;
 
 #[derive(Drop)]
@@ -15,7 +15,7 @@ pub(crate) struct Edges<'a> {
     pub bytes: &'a [u8],
     // In the order of the file.
     places: Places,
-    // For each location, how many edges leave a lower one.
+    // For each location, how many edges leave a lower one, so that a question costs the same however long the file is.
     first: [u16; 257],
     ghost accepted: { Accepted bytes.now },
     ghost listed: { places.items ≡ places_of bytes.now },

@@ -15,6 +15,7 @@ pub fn byte_at(bytes: &[u8], at: usize) -> u8
     bytes.get(at).copied().unwrap_or(0)
 }
 
+// Each integer type has its own from_le_bytes, so there is no one function for both.
 #[tactic(auto, unfolding(crate::specs::Numbers::two_bytes))]
 pub fn u16_at(bytes: &[u8], at: usize) -> u16
     ensures { result ≡ two_bytes bytes.now at }

@@ -48,7 +48,7 @@ impl<'a> Record<'a> {
         self.two_bytes(2)
     }
 
-    // Of an edge, as all that follows.
+    // From here on of an edge. The location that it leaves.
     pub fn from(&self) -> u16
         ensures { result ≡ from_of self.now.bytes.now self.now.at }
     {

@@ -9,11 +9,11 @@ use Rattle.std.proofs.ByRecursion.{all_kept_by, All-map, All-get_or, All-weaker}
 use Rattle.std.proofs.lemmas.List.{length-map, get_or_past}
 use Rattle.std.proofs.lemmas.Option.{slice_get-map}
 use Rattle.std.proofs.lemmas.Bool.{cases_lt, eq-eqb, ne_eqb}
+use Rattle.std.proofs.lemmas.Nat.Bits.{bit_at-zero}
 use Rattle.std.specs.List.{slice_get, range_with_len, AllByRecursion}
 use Rattle.std.specs.Option.{option_map}
 use Rattle.machines.specs.Automaton.{Atom, Edge, bit, leaving, edge_at, on_clock, LawfulAtom, LawfulEdge, Carried, Lawful}
 use Rattle.machines.specs.Laws.Lists.{from_map, all_nth, Stands, stands_kept, length-kept}
-use Rattle.machines.specs.Laws.Masks.{bit_below}
 use Rattle.models.specs.Format.{locations_of, from_of, label_of, count_of, place_of_atom, HeadRecord, EdgeRecord, Accepted}
 use Rattle.models.specs.Model.{places_of, places_at, atom_read, edge_read, widest, labels_of, model}
 use Rattle.models.specs.Laws.Files.{accepted_parts}
@@ -146,7 +146,7 @@ module _ (bs : List ℕ) (ok : Accepted bs) where
   unfolding labels_of
   label_from b on =
       elim (union_from (label_of bs) 0 (places_of bs) b on) [
-        | inl none ↦ absurd (omega (arith, bit_below 0 0 b (omega arith) none))
+        | inl none ↦ absurd (omega (arith, bit_at-zero b, none))
         | inr p ↦ p
       ]
 

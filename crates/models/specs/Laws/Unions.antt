@@ -1,59 +1,20 @@
 -- Masks that are joined one label at a time.
-use Rattle.std.specs.Prelude.{◌≡◌, ℕ, zero, suc, ◌+◌, ◌-◌, ◌*◌, ◌/◌, ◌%◌, ◌^◌, ◌<◌, ◌≤◌, ◌⊎◌, List, [], ◌∷◌, fold, refl}
-use Rattle.std.proofs.Common.{sym, ap, ◌∙◌, inl, inr, pow-suc, arith, pow-add}
+use Rattle.std.specs.Prelude.{◌≡◌, ℕ, suc, ◌*◌, ◌%◌, ◌^◌, ◌<◌, ◌≤◌, ◌⊎◌, max, List, [], ◌∷◌, fold, refl}
+use Rattle.std.proofs.Common.{sym, ap, ◌∙◌, inl, inr, arith}
 use Rattle.std.specs.Int.Bits.{bit_or}
 use Rattle.std.proofs.Math.Pow.{pow-lt}
-use Rattle.std.proofs.lemmas.Nat.{shl-shr, one_shl, or_lt, or_shr, or_mod}
-use Rattle.std.proofs.lemmas.Bool.{cases_lt}
+use Rattle.std.proofs.lemmas.Nat.{one_shl, or_lt}
+use Rattle.std.proofs.lemmas.Nat.Bits.{bit_at_or, bit_at-pow_same, bit_at-pow_other}
+use Rattle.std.proofs.lemmas.Bool.{cases_lt, cases_eq}
 use Rattle.std.specs.List.{AllByRecursion}
 use Rattle.machines.specs.Automaton.{bit}
 use Rattle.machines.specs.Laws.Lists.{Stands}
-use Rattle.machines.specs.Laws.Masks.{bit_below}
 
-bit-bit_or : (m n i : ℕ) → bit (bit_or m n) i ≡ bit_or (bit m i) (bit n i)
-bit-bit_or m n i = ap (λ x. x % 2) (or_shr m n i) ∙ or_mod (m / 2 ^ i) (n / 2 ^ i) 1
+either_one : (a b : ℕ) → max a b ≡ 1 → (a ≡ 1) ⊎ (b ≡ 1)
+either_one a b e = elim (cases_lt a b) [ inl lt ↦ inr (omega (arith, e)) | inr ge ↦ inl (omega (arith, e)) ]
 
-digit_or : (a b : ℕ) → a < 2 → b < 2 → bit_or a b ≡ 1 → (a ≡ 1) ⊎ (b ≡ 1)
-digit_or zero zero h g e = absurd (let z : ◌≡◌ {A = ℕ} 0 1 = e in omega arith)
-digit_or zero (suc zero) h g e = inr refl
-digit_or (suc zero) b h g e = inl refl
-digit_or zero (suc (suc b)) h g e = absurd (omega arith)
-digit_or (suc (suc a)) b h g e = absurd (omega arith)
-
-or_digit : (a b : ℕ) → a < 2 → b < 2 → (a ≡ 1) ⊎ (b ≡ 1) → bit_or a b ≡ 1
-or_digit zero zero h g (inl e) = absurd (omega arith)
-or_digit zero zero h g (inr e) = absurd (omega arith)
-or_digit zero (suc zero) h g e = refl
-or_digit (suc zero) zero h g e = refl
-or_digit (suc zero) (suc zero) h g e = refl
-or_digit zero (suc (suc b)) h g e = absurd (omega arith)
-or_digit (suc zero) (suc (suc b)) h g e = absurd (omega arith)
-or_digit (suc (suc a)) b h g e = absurd (omega arith)
-
-bit_or_from : (m n i : ℕ) → bit (bit_or m n) i ≡ 1 → (bit m i ≡ 1) ⊎ (bit n i ≡ 1)
-bit_or_from m n i e = digit_or (bit m i) (bit n i) (omega arith) (omega arith) (sym (bit-bit_or m n i) ∙ e)
-
-bit_or_to : (m n i : ℕ) → (bit m i ≡ 1) ⊎ (bit n i ≡ 1) → bit (bit_or m n) i ≡ 1
-bit_or_to m n i e = bit-bit_or m n i ∙ or_digit (bit m i) (bit n i) (omega arith) (omega arith) e
-
-power_shr : (a i : ℕ) → i ≤ a → 2 ^ a / 2 ^ i ≡ 2 ^ (a - i)
-power_shr a i h =
-    let split : a ≡ (a - i) + i = omega arith in
-    ap (λ n. n / 2 ^ i) (ap (λ n. 2 ^ n) split ∙ pow-add 2 (a - i) i) ∙ shl-shr (2 ^ (a - i)) i
-
-pub bit_power : (a : ℕ) → bit (2 ^ a) a ≡ 1
-bit_power a = let none : a - a ≡ 0 = omega arith in ap (λ n. n % 2) (power_shr a a (omega arith) ∙ ap (λ n. 2 ^ n) none)
-
-bit_power_from : (a i : ℕ) → bit (2 ^ a) i ≡ 1 → a ≡ i
-bit_power_from a i e =
-    elim (cases_lt i a) [
-      | inl lt ↦
-          let more : a - i ≡ suc (a - i - 1) = omega arith in
-          let even : bit (2 ^ a) i ≡ 2 ^ (a - i - 1) * 2 % 2 =
-          ap (λ n. n % 2) (power_shr a i (omega arith) ∙ ap (λ n. 2 ^ n) more ∙ pow-suc 2 (a - i - 1)) in
-          absurd (omega (arith, even))
-      | inr ge ↦ let low = bit_below (suc a) (2 ^ a) i (pow-lt {i = a} {j = suc a} (omega arith)) e in omega arith
-    ]
+power_bit : (a i : ℕ) → bit (2 ^ a) i ≡ 1 → a ≡ i
+power_bit a i e = elim (cases_eq i a) [ inl same ↦ sym same | inr other ↦ absurd (omega (arith, bit_at-pow_other a i other, e)) ]
 
 -- ---- the labels at places, where f says the label at one
 
@@ -63,20 +24,21 @@ module _ (f : ℕ → ℕ) where
 
   union_keeps : (m : ℕ) (ps : List ℕ) (b : ℕ) → bit m b ≡ 1 → bit (union m ps) b ≡ 1
   union_keeps m [] b e = e
-  union_keeps m (p ∷ ps) b e = union_keeps (bit_or m (2 ^ f p)) ps b (bit_or_to m (2 ^ f p) b (inl e))
+  union_keeps m (p ∷ ps) b e = union_keeps (bit_or m (2 ^ f p)) ps b (omega (arith, bit_at_or m (2 ^ f p) b, e))
 
   -- each label is in the union
   pub union_has : (m : ℕ) (ps : List ℕ) → AllByRecursion (λ p. bit (union m ps) (f p) ≡ 1) ps
   union_has m [] = tt
   union_has m (p ∷ ps) =
-      (union_keeps (bit_or m (2 ^ f p)) ps (f p) (bit_or_to m (2 ^ f p) (f p) (inr (bit_power (f p)))), union_has (bit_or m (2 ^ f p)) ps)
+      (union_keeps (bit_or m (2 ^ f p)) ps (f p) (omega (arith, bit_at_or m (2 ^ f p) (f p), bit_at-pow_same (f p))), union_has (bit_or m (2 ^ f p)) ps)
 
   -- each number of the union is a label, or was there at the start
   pub union_from : (m : ℕ) (ps : List ℕ) (b : ℕ) → bit (union m ps) b ≡ 1 → (bit m b ≡ 1) ⊎ ((p : ℕ) × Stands ps p × (f p ≡ b))
   union_from m [] b e = inl e
   union_from m (p ∷ ps) b e =
       elim (union_from (bit_or m (2 ^ f p)) ps b e) [
-        | inl here ↦ elim (bit_or_from m (2 ^ f p) b here) [ inl old ↦ inl old | inr new ↦ inr (p, (0, refl), bit_power_from (f p) b new) ]
+        | inl here ↦
+            elim (either_one (bit m b) (bit (2 ^ f p) b) (sym (bit_at_or m (2 ^ f p) b) ∙ here)) [ inl old ↦ inl old | inr new ↦ inr (p, (0, refl), power_bit (f p) b new) ]
         | inr later ↦ inr (later.0, (suc later.1.0, later.1.1), later.2)
       ]
 
