@@ -1,5 +1,6 @@
 // What replaying a word answers.
 use crate::files::{add_edge, add_guarded, fan, head, late_fan};
+use machines::comparison::Comparison;
 use machines::machine::Machine;
 use models::table::Table;
 use pairs::pair::Pair;
@@ -21,11 +22,13 @@ const LEAD: Letter = Letter { delay: 1, label: 1 };
 
 const LOST: Letter = Letter { delay: 1, label: 2 };
 
+fn table<'a>(rt: &impl Abort, file: &'a [u8]) -> Table<'a> {
+    Table::read(file).expect(rt, "no table")
+}
+
 // Replays the word at grid 1 on the machine of the file.
 fn check_crowd(rt: &impl Abort, file: &[u8], word: &[Letter], expected: Answer) {
-    let mut table = Table::bare();
-    assert!(rt; table.load(file).is_ok());
-    assert_eq!(rt; answer(&table, 1, word), expected);
+    assert_eq!(rt; answer(&table(rt, file), 1, word), expected);
 }
 
 #[test]
@@ -85,21 +88,18 @@ fn ranges(rt: HostRuntime) -> Result<(), Fail> {
 
 // A step of label 0 is one at the delay exactly where the comparison holds.
 fn check_edge(rt: &impl Abort, file: &[u8], grid: u32, delay: u32, holds: bool, place: &str) {
-    let mut table = Table::bare();
-    assert!(rt; table.load(file).is_ok());
     let word = [Letter { delay, label: 0 }];
-    assert_eq!(rt; answer(&table, grid, &word), Ok(holds), "{place}");
+    assert_eq!(rt; answer(&table(rt, file), grid, &word), Ok(holds), "{place}");
 }
 
-// The delays just below, at and just above three ticks, for one comparison.
+// Whether one comparison holds just below, at and just above three ticks.
 fn check_comparison(
     rt: &impl Abort,
     file: &[u8],
     grid: u32,
-    below: bool,
-    at: bool,
-    above: bool,
+    holds: [bool; 3],
 ) -> Result<(), Fail> {
+    let [below, at, above] = holds;
     let limit = grid.checked_mul(3).ok_or("grid")?;
     check_edge(rt, file, grid, limit.saturating_sub(1), below, "below");
     check_edge(rt, file, grid, limit, at, "at");
@@ -109,16 +109,16 @@ fn check_comparison(
 
 #[test]
 fn comparisons(rt: HostRuntime) -> Result<(), Fail> {
-    for (comparison, below, at, above) in [
-        (0, true, false, false),
-        (1, true, true, false),
-        (2, false, false, true),
-        (3, false, true, true),
+    for (comparison, holds) in [
+        (Comparison::Below, [true, false, false]),
+        (Comparison::AtMost, [true, true, false]),
+        (Comparison::Above, [false, false, true]),
+        (Comparison::AtLeast, [false, true, true]),
     ] {
         let mut file = head(rt.alloc(), 1, 1)?;
-        add_guarded(&mut file, 0, 0, comparison, 3)?;
+        add_guarded(&mut file, 0, 0, comparison as u8, 3)?;
         for grid in [1, 2, 64] {
-            check_comparison(&rt, &file, grid, below, at, above)?;
+            check_comparison(&rt, &file, grid, holds)?;
         }
     }
     Ok(())
@@ -126,10 +126,8 @@ fn comparisons(rt: HostRuntime) -> Result<(), Fail> {
 
 // Two steps on a pair of two tables, and what each part says of the steps that are its own.
 fn check_pair(rt: &impl Abort, left: &[u8], right: &[u8], first: Letter, second: Letter) {
-    let mut one = Table::bare();
-    let mut other = Table::bare();
-    assert!(rt; one.load(left).is_ok());
-    assert!(rt; other.load(right).is_ok());
+    let one = table(rt, left);
+    let other = table(rt, right);
     let word = [first, second];
     let both = answer(&one, 1, &word) == Ok(true) && answer(&other, 1, &word) == Ok(true);
     let pair = Pair::new(one, other);
@@ -154,12 +152,8 @@ fn pairs(rt: HostRuntime) -> Result<(), Fail> {
 }
 
 // Replays a step of left's own label 1, and then one of both.
-fn check_own(rt: &impl Abort, left: &[u8], right: &[u8], first: u32, second: u32, is: bool) {
-    let mut one = Table::bare();
-    let mut other = Table::bare();
-    assert!(rt; one.load(left).is_ok());
-    assert!(rt; other.load(right).is_ok());
-    let pair = Pair::new(one, other);
+fn check_own(rt: &impl Abort, left: &[u8], right: &[u8], first: u32, second: u32, holds: bool) {
+    let pair = Pair::new(table(rt, left), table(rt, right));
     let moved = Letter {
         delay: first,
         label: 1,
@@ -168,7 +162,7 @@ fn check_own(rt: &impl Abort, left: &[u8], right: &[u8], first: u32, second: u32
         delay: second,
         label: 0,
     };
-    assert_eq!(rt; answer(&pair, 1, &[moved, joint]), Ok(is));
+    assert_eq!(rt; answer(&pair, 1, &[moved, joint]), Ok(holds));
 }
 
 // Label 1 moves left alone, while time passes on the right too.
@@ -179,7 +173,7 @@ fn own_labels(rt: HostRuntime) -> Result<(), Fail> {
     add_guarded(&mut left, 1, 1, 1, 3)?;
     let mut right = head(rt.alloc(), 1, 1)?;
     add_guarded(&mut right, 0, 0, 3, 4)?;
-    for (first, second, is) in [
+    for (first, second, holds) in [
         (3, 1, true),
         (3, 0, false),
         (4, 9, false),
@@ -187,7 +181,7 @@ fn own_labels(rt: HostRuntime) -> Result<(), Fail> {
         (3, 9, true),
         (3, 10, false),
     ] {
-        check_own(&rt, &left, &right, first, second, is);
+        check_own(&rt, &left, &right, first, second, holds);
     }
     Ok(())
 }
