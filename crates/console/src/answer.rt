@@ -1,4 +1,4 @@
-// What a machine that a script makes is answered.
+// What the machines that a script names answer.
 ghost use Rattle.console.specs.Stations.{ModelRead, Paired, named_automaton, part_automaton, shared};
 ghost use Rattle.pairs.specs.Product.{pair_of};
 ghost use Rattle.words.specs.Replays.{word_of, Replayed};

@@ -17,6 +17,7 @@ use std::rc::Rc;
 // A name may be given again, and then stands for what it was given last; a pair keeps the parts that it was made of.
 #[derive(Drop)]
 pub struct Session {
+    heap: Global,
     names: BTreeMap<Vec<u8>, Named<Rc<Part>>>,
 }
 
@@ -42,6 +43,7 @@ impl Session {
         ensures { result ≡ empty }
     {
         Session {
+            heap,
             names: BTreeMap::new(heap),
         }
     }
@@ -56,29 +58,28 @@ impl Session {
 
     // Gives the name to what there is. Where memory fails no name changes.
     #[tactic(auto, using(crate::proofs::Entries::reading))]
-    fn bind(&mut self, heap: Global, name: &[u8], what: Named<Rc<Part>>) -> Result<(), AllocError>
+    fn bind(&mut self, name: &[u8], what: Named<Rc<Part>>) -> Result<(), AllocError>
         ensures ok { OnOk result (self.new ≡ insert self.old name.now (shared what)) }
         ensures err { OnErr result (self.new ≡ self.old) }
     {
-        let name = Vec::from_slice(heap, name)?;
+        let name = Vec::from_slice(self.heap, name)?;
         self.names.insert(name, what)?;
         Ok(())
     }
 
     // Gives the name to a new part. Where memory fails no name changes.
-    pub fn define(&mut self, heap: Global, name: &[u8], part: Part) -> Result<(), AllocError>
+    pub fn define(&mut self, name: &[u8], part: Part) -> Result<(), AllocError>
         ensures ok { OnOk result (self.new ≡ insert self.old name.now (Named.Part part)) }
         ensures err { OnErr result (self.new ≡ self.old) }
     {
-        let part = Rc::new(heap, part)?;
-        self.bind(heap, name, Named::Part(part))
+        let part = Rc::new(self.heap, part)?;
+        self.bind(name, Named::Part(part))
     }
 
     // Loads a table under the name and answers its numbers. Where the file is refused the name stands for what it did, and a
     // new name for the bare table.
     pub fn load(
         &mut self,
-        heap: Global,
         name: &[u8],
         file: Vec<u8>,
     ) -> Result<Result<(Summary, u32), Refusal>, AllocError>
@@ -88,29 +89,23 @@ impl Session {
     {
         match read_model(file.as_slice()) {
             Ok(numbers) => {
-                self.define(heap, name, Part::Table(file))?;
+                self.define(name, Part::Table(file))?;
                 Ok(Ok(numbers))
             }
             Err(why) if self.find(name).is_some() => Ok(Err(why)),
             Err(why) => {
-                self.define(heap, name, Part::Bare)?;
+                self.define(name, Part::Bare)?;
                 Ok(Err(why))
             }
         }
     }
 
     // Gives the name to the pair of two parts. Where memory fails no name changes.
-    pub fn join(
-        &mut self,
-        heap: Global,
-        name: &[u8],
-        left: Rc<Part>,
-        right: Rc<Part>,
-    ) -> Result<(), AllocError>
+    pub fn join(&mut self, name: &[u8], left: Rc<Part>, right: Rc<Part>) -> Result<(), AllocError>
         ensures ok { OnOk result (self.new ≡ insert self.old name.now (Named.Pair left.value right.value)) }
         ensures err { OnErr result (self.new ≡ self.old) }
     {
-        self.bind(heap, name, Named::Pair(left, right))
+        self.bind(name, Named::Pair(left, right))
     }
 }
 
@@ -145,11 +140,11 @@ mod tests {
         let heap = rt.alloc();
         let mut session = Session::new(heap);
         assert_eq!(rt; locations(&session, b"door"), None);
-        session.load(heap, b"door", model(heap, 3)?)??;
-        session.define(heap, b"rule", Part::Deadline(Deadline::new(0, 1, 3, 5)?))?;
+        session.load(b"door", model(heap, 3)?)??;
+        session.define(b"rule", Part::Deadline(Deadline::new(0, 1, 3, 5)?))?;
         let door = part(&session, b"door")?;
         let rule = part(&session, b"rule")?;
-        session.join(heap, b"ruled", door, rule)?;
+        session.join(b"ruled", door, rule)?;
         assert_eq!(rt; locations(&session, b"door"), Some(3));
         assert_eq!(rt; locations(&session, b"rule"), Some(2));
         assert_eq!(rt; locations(&session, b"ruled"), Some(6));
@@ -160,10 +155,10 @@ mod tests {
     fn a_pair_keeps_its_parts(rt: HostRuntime) -> Result<(), Fail> {
         let heap = rt.alloc();
         let mut session = Session::new(heap);
-        session.load(heap, b"door", model(heap, 3)?)??;
+        session.load(b"door", model(heap, 3)?)??;
         let door = part(&session, b"door")?;
-        session.join(heap, b"both", door.clone()?, door)?;
-        session.load(heap, b"door", model(heap, 5)?)??;
+        session.join(b"both", door.clone()?, door)?;
+        session.load(b"door", model(heap, 5)?)??;
         assert_eq!(rt; locations(&session, b"door"), Some(5));
         assert_eq!(rt; locations(&session, b"both"), Some(9));
         Ok(())
@@ -173,9 +168,9 @@ mod tests {
     fn a_refused_file_leaves_the_name(rt: HostRuntime) -> Result<(), Fail> {
         let heap = rt.alloc();
         let mut session = Session::new(heap);
-        session.load(heap, b"door", model(heap, 3)?)??;
-        assert!(rt; session.load(heap, b"door", model(heap, 0)?)?.is_err());
-        assert!(rt; session.load(heap, b"shear", model(heap, 0)?)?.is_err());
+        session.load(b"door", model(heap, 3)?)??;
+        assert!(rt; session.load(b"door", model(heap, 0)?)?.is_err());
+        assert!(rt; session.load(b"shear", model(heap, 0)?)?.is_err());
         assert_eq!(rt; locations(&session, b"door"), Some(3));
         assert_eq!(rt; locations(&session, b"shear"), Some(1));
         Ok(())

@@ -52,7 +52,7 @@ impl<'a, R: Files + Print + AllocGlobal> Console<'a, R> {
     fn table(&mut self, name: &[u8], source: &[u8]) -> Result<(), Trouble> {
         let text = self.text(name)?;
         let file = self.read_source(source)?;
-        match self.session.load(self.rt.alloc(), name, file)? {
+        match self.session.load(name, file)? {
             Ok((sum, edges)) => {
                 print!(self.rt; "table {text}: ")?;
                 print_summary(self.rt, sum, Some(edges))?;
@@ -69,7 +69,7 @@ impl<'a, R: Files + Print + AllocGlobal> Console<'a, R> {
         match Deadline::new(label_of(a), label_of(b), m, c) {
             Ok(deadline) => {
                 self.session
-                    .define(self.rt.alloc(), name, Part::Deadline(deadline))?;
+                    .define(name, Part::Deadline(deadline))?;
                 println!(self.rt; "deadline {text}: ok")?;
             }
             Err(why) => println!(self.rt; "deadline {text}: {why}")?,
@@ -84,7 +84,7 @@ impl<'a, R: Files + Print + AllocGlobal> Console<'a, R> {
         let right = self.part(right)?;
         match read_pair(&left, &right) {
             Ok(sum) => {
-                self.session.join(self.rt.alloc(), name, left, right)?;
+                self.session.join(name, left, right)?;
                 print!(self.rt; "pair {text}: ")?;
                 print_summary(self.rt, sum, None)?;
             }

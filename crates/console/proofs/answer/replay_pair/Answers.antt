@@ -1,5 +1,4 @@
-use Rattle.std.proofs.Common.{sym}
 use Rattle.console.proofs.answer.replay_pair.Goals as goal
 
 pub returns : goal.returns
-returns c = ?
+returns c = rw (← c.station.ensures, ← c.station-2.ensures, ← c.new.ensures.left, ← c.new.ensures.right) c.replay.ensures
