@@ -23,6 +23,7 @@ fn letter(word: &[u8]) -> Option<Letter>
 pub fn steps(heap: Global, words: &[&[u8]]) -> Result<Vec<Letter>, Fault>
     ensures { MatchResult result (λ v. LettersAre (drop 3 (map (λ x. x.now) words.now)) v.items) (λ e. (e ≡ Memory) ⊎ ((e ≡ Step) × NoLetter (drop 3 (map (λ x. x.now) words.now)))) }
 {
+    // A loop: through `map` and `try_collect` the check leaves open that the steps, or the fault, are those of the words.
     let mut all = Vec::new(heap);
     for word in words.get(3..).unwrap_or_default() {
         all.push(letter(word).ok_or(Fault::Step)?)?;

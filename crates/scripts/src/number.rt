@@ -4,7 +4,7 @@ ghost use Rattle.std.specs.Option.{SomeIff};
 ghost use Rattle.std.specs.Str.Parse.{digits_value};
 ghost use Rattle.scripts.specs.Numbers.{Numeral, Written, written};
 
-// The number that the digits write in a base, where it fits.
+// The number that the digits write in a base, where it fits; `from_str_radix` would take a sign too.
 fn digits(text: &[u8], radix: u32) -> Option<u32>
     requires { (2 ≤ radix) × (radix ≤ 36) }
     ensures { SomeIff result (Numeral radix text.now) (digits_value radix text.now) }
