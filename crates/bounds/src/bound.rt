@@ -16,7 +16,7 @@ pub struct Bound<S> {
     scale: PhantomData<S>,
 }
 
-// The largest constant that has a code of four signed bytes, without sign.
+// The largest constant, without sign, whose codes are read back.
 const WIDEST: i64 = 1_000_000;
 
 impl<S> Bound<S> {
@@ -59,6 +59,7 @@ impl<S: Scale> Cell for Bound<S> {
         Bound::of_code(S::at_most(0))
     }
 
+    // Not `<=` of the options, by which no limit would be the least.
     fn not_above(&self, other: &Self) -> bool {
         other
             .limit
@@ -108,6 +109,7 @@ impl<S: Scale> Reading for Bound<S> {
     }
 
     fn opposed(self) -> Self {
+        // The method's own name would not do in place of the closure: it does not fit the bound of `map` here.
         Bound::new(self.limit.map(|x| S::opposed(x)))
     }
 

@@ -14,7 +14,7 @@ pub struct DenseScale;
 
 pub type Dense = Bound<DenseScale>;
 
-// The constant of a code.
+// The constant of a code. A code stays one number, as the laws have it; these are its two parts.
 fn constant(code: i64) -> i64
     ensures { result ≡ half code }
 {

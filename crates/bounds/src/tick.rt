@@ -6,7 +6,7 @@ use crate::bound::Bound;
 use crate::numbers::{added, taken};
 use crate::scale::Scale;
 
-// A code is the number of ticks that are not passed.
+// c is the code of at most c, c − 1 that of below c.
 #[derive(Clone, Copy)]
 pub struct TickScale;
 

@@ -19,7 +19,7 @@ pub fn opposite_of_seven() -> Option<i32>
     Dense::of_code(7).opposed().coded()
 }
 
-// Below −1,000,000 and at most 1,000,000 under the dense reading.
+// Below −1,000,000 and at most 1,000,000 under the dense reading. One for each scale, since the clauses state its numbers.
 pub fn dense_range() -> (Option<i32>, Option<i32>)
     ensures lowest { result.0 ≡ Some (negsuc 1999999) }
     ensures highest { result.1 ≡ Some (pos 2000001) }

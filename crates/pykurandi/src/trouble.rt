@@ -14,6 +14,7 @@ pub enum Trouble {
     Output(#[from] io::Error),
 }
 
+// Want of memory is a fault of the line, so no derived conversion makes it.
 impl From<AllocError> for Trouble {
     fn from(e: AllocError) -> Trouble {
         Trouble::Fault(e.into())
