@@ -7,6 +7,7 @@ ghost use Rattle.models.specs.Format.{size_of, kind_of, from_of, to_of, label_of
 use crate::numbers::{byte_at, u16_at, u32_at};
 use machines::atom::Atom;
 use machines::comparison::Comparison;
+use machines::machine::Head;
 
 // The record at a place of the file.
 #[derive(Clone, Copy)]
@@ -86,7 +87,7 @@ impl<'a> Record<'a> {
     }
 
     // The label, target, resets and number of atoms.
-    pub fn edge_head(&self) -> (u8, u32, u8, u32)
+    pub fn edge_head(&self) -> Head
         ensures { result ≡ (label_of self.now.bytes.now self.now.at, to_of self.now.bytes.now self.now.at, resets_of self.now.bytes.now self.now.at, count_of self.now.bytes.now self.now.at) }
     {
         (

@@ -11,7 +11,7 @@ use crate::edges::Edges;
 use crate::head;
 use crate::record::Record;
 use machines::atom::Atom;
-use machines::machine::Machine;
+use machines::machine::{Head, Machine};
 use machines::refusal::Refusal;
 
 // The head alone: one location, no clock and no edge.
@@ -107,7 +107,7 @@ impl<'a> Machine for Table<'a> {
         Some(self.edges.count(location))
     }
 
-    fn edge_head(&self, location: u32, k: u32) -> Option<(u8, u32, u8, u32)> {
+    fn edge_head(&self, location: u32, k: u32) -> Option<Head> {
         let edge = self.edge(location, k)?;
         Some(edge.edge_head())
     }
