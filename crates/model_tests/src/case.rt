@@ -15,8 +15,8 @@ fn numbers(why: Refusal) -> (u8, usize) {
     (why.number(), why.place())
 }
 
-// Loads the good file and then the row's: both that and reading the row's alone give this answer. Where it is refused the table answers as
-// before.
+// Loads the good file and then the row's: both that and reading the row's alone give this answer.
+// Where it is refused the table answers as before.
 fn check_files<'x>(rt: &impl Abort, good: &'x [u8], file: &'x [u8], expected: Answer, row: &str) {
     let mut table = Table::bare();
     assert!(rt; table.load(good).is_ok());

@@ -29,12 +29,14 @@ pub struct Model {
 }
 
 // Each question has the answer of its row. Names the file where it has not.
-fn check<K: Debug, A: Debug + PartialEq + Drop>(
+fn check<K: Debug, A: Debug + PartialEq + Drop, F: Fn(&K) -> A>(
     rt: &impl Abort,
     file: &str,
     rows: &[(K, A)],
-    ask: impl Fn(&K) -> A,
-) {
+    ask: F,
+)
+    requires { F.IsAlwaysCallable ask }
+{
     for (question, answer) in rows {
         assert_eq!(rt; &ask(question), answer, "{question:?}; {file}");
     }
@@ -45,7 +47,12 @@ pub fn check_table(rt: &impl Abort, t: &Table, model: &Model, file: &str) {
     assert_eq!(rt; summarize(t), model.summary, "{file}");
     assert_eq!(rt; t.edges(), model.edges, "{file}");
     check(rt, file, model.counts, |location| t.edge_count(*location));
-    check(rt, file, model.heads, |(location, k)| t.edge_head(*location, *k));
+    check(
+        rt,
+        file,
+        model.heads,
+        |(location, k)| t.edge_head(*location, *k),
+    );
     check(rt, file, model.atoms, |(location, k, i)| {
         let atom = t.atom(*location, *k, *i)?;
         Some((atom.clock, atom.comparison, atom.constant))
