@@ -1,7 +1,7 @@
 // What is to be read from a file.
 use crate::bytes::build;
 use machines::comparison::Comparison;
-use machines::machine::{Machine, Summary, summarize};
+use machines::machine::{self, Machine, Summary, summarize};
 use models::table::Table;
 use std::alloc::Global;
 use std::fmt::Debug;
@@ -12,7 +12,7 @@ use std::test::Fail;
 pub type Count = (u32, Option<u32>);
 
 // A location and an edge's number there, and its label, target, resets and number of atoms.
-pub type Head = ((u32, u32), Option<(u8, u32, u8, u32)>);
+pub type Head = ((u32, u32), Option<machine::Head>);
 
 // A location, an edge's number there and an atom's number, and its clock, comparison and constant.
 pub type Condition = ((u32, u32, u32), Option<(u8, Comparison, u32)>);
