@@ -93,12 +93,7 @@ fn check_edge(rt: &impl Abort, file: &[u8], grid: u32, delay: u32, holds: bool, 
 }
 
 // Whether one comparison holds just below, at and just above three ticks.
-fn check_comparison(
-    rt: &impl Abort,
-    file: &[u8],
-    grid: u32,
-    holds: [bool; 3],
-) -> Result<(), Fail> {
+fn check_comparison(rt: &impl Abort, file: &[u8], grid: u32, holds: [bool; 3]) -> Result<(), Fail> {
     let [below, at, above] = holds;
     let limit = grid.checked_mul(3).ok_or("grid")?;
     check_edge(rt, file, grid, limit.saturating_sub(1), below, "below");
