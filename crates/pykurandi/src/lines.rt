@@ -68,8 +68,7 @@ impl<'a, R: Files + Print + AllocGlobal> Console<'a, R> {
         let DeadlineNumbers { a, b, m, c } = numbers;
         match Deadline::new(label_of(a), label_of(b), m, c) {
             Ok(deadline) => {
-                self.session
-                    .define(name, Part::Deadline(deadline))?;
+                self.session.define(name, Part::Deadline(deadline))?;
                 println!(self.rt; "deadline {text}: ok")?;
             }
             Err(why) => println!(self.rt; "deadline {text}: {why}")?,
