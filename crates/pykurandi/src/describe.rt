@@ -54,7 +54,7 @@ impl<R: Print, M: Machine> Listing<'_, R, M> {
         println!(self.rt; "")
     }
 
-    // The edges at the location, a line each.
+    // The edges at the location, a line each: a machine is asked for them by number.
     fn print_location(&self, location: u32) -> io::Result<()> {
         for k in 0..self.machine.edge_count(location).unwrap_or(0) {
             self.print_edge(location, k)?;
@@ -63,7 +63,7 @@ impl<R: Print, M: Machine> Listing<'_, R, M> {
     }
 }
 
-// The numbers of the machine, and then a line for each edge.
+// The numbers of the machine, and then a line for each edge, by the number of its location.
 pub fn describe(rt: &impl Print, name: &str, machine: &impl Machine) -> io::Result<()> {
     let sum = summarize(machine);
     print!(rt; "{name}: ")?;
