@@ -32,7 +32,7 @@ fn count_below(bytes: &[u8], places: &[u32], location: usize) -> usize
 }
 
 impl<'a> Edges<'a> {
-    pub fn new(bytes: &'a [u8], places: Places) -> Edges<'a>
+    pub(crate) fn new(bytes: &'a [u8], places: Places) -> Edges<'a>
         requires { (Accepted bytes.now) × (places.items ≡ places_of bytes.now) }
         ensures { result.bytes.now ≡ bytes.now }
     {
@@ -48,7 +48,7 @@ impl<'a> Edges<'a> {
     }
 
     // The record at a place of the file.
-    pub fn record(&self, at: u32) -> Record<'a>
+    pub(crate) fn record(&self, at: u32) -> Record<'a>
         ensures bytes { result.bytes ≡ self.now.bytes }
         ensures at { result.at ≡ at }
     {
@@ -59,7 +59,7 @@ impl<'a> Edges<'a> {
     }
 
     // How many edges there are.
-    pub fn len(&self) -> u32
+    pub(crate) fn len(&self) -> u32
         ensures { result ≡ length (places_of self.now.bytes.now) }
     {
         self.places.len() as u32
@@ -67,7 +67,7 @@ impl<'a> Edges<'a> {
 
     // The places of the edges that leave `location`.
     #[tactic(auto, using(crate::specs::Laws::Counts::of_leaving))]
-    pub fn leaving(&self, location: u32) -> &[u32]
+    pub(crate) fn leaving(&self, location: u32) -> &[u32]
         ensures { result.now ≡ places_at self.now.bytes.now location }
     {
         // No file has more locations than that.
@@ -80,14 +80,14 @@ impl<'a> Edges<'a> {
 
     // How many edges leave `location`.
     #[tactic(auto, using(crate::specs::Laws::Models::few_leaving))]
-    pub fn count(&self, location: u32) -> u32
+    pub(crate) fn count(&self, location: u32) -> u32
         ensures { result ≡ length (places_at self.now.bytes.now location) }
     {
         self.leaving(location).len() as u32
     }
 
     // The largest number of edges that leave a location.
-    pub fn width(&self) -> u32
+    pub(crate) fn width(&self) -> u32
         ensures { result ≡ widest self.now.bytes.now (locations_of self.now.bytes.now) }
     {
         let locations = head::locations(self.bytes);
@@ -98,7 +98,7 @@ impl<'a> Edges<'a> {
     }
 
     // The labels on edges, as a mask.
-    pub fn labels(&self) -> u32
+    pub(crate) fn labels(&self) -> u32
         ensures { result ≡ labels_of self.now.bytes.now }
     {
         self.places

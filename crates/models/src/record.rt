@@ -37,57 +37,57 @@ impl<'a> Record<'a> {
         u16_at(self.bytes, self.at as usize + offset as usize)
     }
 
-    pub fn size(&self) -> u16
+    pub(crate) fn size(&self) -> u16
         ensures { result ≡ size_of self.now.bytes.now self.now.at }
     {
         self.two_bytes(0)
     }
 
-    pub fn kind(&self) -> u16
+    pub(crate) fn kind(&self) -> u16
         ensures { result ≡ kind_of self.now.bytes.now self.now.at }
     {
         self.two_bytes(2)
     }
 
     // From here on of an edge. The location that it leaves.
-    pub fn from(&self) -> u16
+    pub(crate) fn from(&self) -> u16
         ensures { result ≡ from_of self.now.bytes.now self.now.at }
     {
         self.two_bytes(4)
     }
 
-    pub fn to(&self) -> u16
+    pub(crate) fn to(&self) -> u16
         ensures { result ≡ to_of self.now.bytes.now self.now.at }
     {
         self.two_bytes(6)
     }
 
-    pub fn label(&self) -> u8
+    pub(crate) fn label(&self) -> u8
         ensures { result ≡ label_of self.now.bytes.now self.now.at }
     {
         self.byte(8)
     }
 
-    pub fn resets(&self) -> u8
+    pub(crate) fn resets(&self) -> u8
         ensures { result ≡ resets_of self.now.bytes.now self.now.at }
     {
         self.byte(9)
     }
 
-    pub fn count(&self) -> u8
+    pub(crate) fn count(&self) -> u8
         ensures { result ≡ count_of self.now.bytes.now self.now.at }
     {
         self.byte(10)
     }
 
-    pub fn spare(&self) -> u8
+    pub(crate) fn spare(&self) -> u8
         ensures { result ≡ byte self.now.bytes.now (self.now.at + 11) }
     {
         self.byte(11)
     }
 
     // The label, target, resets and number of atoms.
-    pub fn edge_head(&self) -> Head
+    pub(crate) fn edge_head(&self) -> Head
         ensures { result ≡ (label_of self.now.bytes.now self.now.at, to_of self.now.bytes.now self.now.at, resets_of self.now.bytes.now self.now.at, count_of self.now.bytes.now self.now.at) }
     {
         (
@@ -98,7 +98,7 @@ impl<'a> Record<'a> {
         )
     }
 
-    pub fn atom(&self, i: u8) -> AtomRecord<'a>
+    pub(crate) fn atom(&self, i: u8) -> AtomRecord<'a>
         ensures bytes { result.bytes ≡ self.now.bytes }
         ensures at { result.at ≡ place_of_atom self.now.at i }
     {
@@ -110,31 +110,31 @@ impl<'a> Record<'a> {
 }
 
 impl AtomRecord<'_> {
-    pub fn clock(&self) -> u8
+    pub(crate) fn clock(&self) -> u8
         ensures { result ≡ clock_of self.now.bytes.now self.now.at }
     {
         byte_at(self.bytes, self.at)
     }
 
-    pub fn comparison(&self) -> u8
+    pub(crate) fn comparison(&self) -> u8
         ensures { result ≡ comparison_of self.now.bytes.now self.now.at }
     {
         byte_at(self.bytes, self.at + 1)
     }
 
-    pub fn spare(&self) -> u16
+    pub(crate) fn spare(&self) -> u16
         ensures { result ≡ two_bytes self.now.bytes.now (self.now.at + 2) }
     {
         u16_at(self.bytes, self.at + 2)
     }
 
-    pub fn constant(&self) -> u32
+    pub(crate) fn constant(&self) -> u32
         ensures { result ≡ constant_of self.now.bytes.now self.now.at }
     {
         u32_at(self.bytes, self.at + 4)
     }
 
-    pub fn read(&self) -> Atom
+    pub(crate) fn read(&self) -> Atom
         ensures clock { result.clock ≡ clock_of self.now.bytes.now self.now.at }
         ensures comparison { result.comparison ≡ coded (comparison_of self.now.bytes.now self.now.at) }
         ensures constant { result.constant ≡ constant_of self.now.bytes.now self.now.at }
