@@ -13,6 +13,9 @@ pub trait Machine {
     // The automaton that the machine is.
     ghost meaning: { Self → Automaton };
 
+    // That the automaton keeps every range, which each `impl` shows.
+    ghost lawful: { (m : Self) → Lawful (meaning m) };
+
     fn locations(&self) -> u32
         ensures { result ≡ (meaning self.now).locations };
 
@@ -38,9 +41,6 @@ pub trait Machine {
     // That edge's atom `i`.
     fn atom(&self, location: u32, k: u32, i: u32) -> Option<Atom>
         ensures { option_map numbers_of result ≡ atom_at (meaning self.now) location k i };
-
-    // The automaton keeps every range.
-    ghost lawful: { (m : Self) → Lawful (meaning m) };
 }
 
 // The numbers of a machine as a whole.

@@ -1,4 +1,4 @@
 use Rattle.machines.proofs.machine.summarize.Goals as goal
 
 pub returns-clause-lawful : goal.returns-clause-lawful
-returns-clause-lawful g c = g.met.M.Machine.lawful c.args.m.now
+returns-clause-lawful g c = g.M.Machine.lawful c.args.m.now

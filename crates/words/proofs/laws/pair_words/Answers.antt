@@ -5,4 +5,4 @@ pub returns : goal.returns
 returns g c =
     let l = c.args.left.now in
     let r = c.args.right.now in
-    pair_words_lem (g.L.Machine.meaning l) (g.R.Machine.meaning r) (g.met.L.Machine.lawful l) (g.met.R.Machine.lawful r)
+    pair_words_lem (g.L.Machine.meaning l) (g.R.Machine.meaning r) (g.L.Machine.lawful l) (g.R.Machine.lawful r)
