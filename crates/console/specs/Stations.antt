@@ -5,7 +5,6 @@ use Rattle.machines.specs.Automaton.{Automaton, bare}
 use Rattle.machines.specs.Deadline.{deadline}
 use Rattle.models.specs.Format.{verdict}
 use Rattle.models.specs.Model.{model, places_of}
-use Rattle.machines.specs.declared.machine.Machine.{Ghosts}
 use Rattle.machines.specs.declared.machine.Summary.{Summary}
 use Rattle.machines.specs.declared.refusal.Refusal.{Refusal}
 use Rattle.machines.specs.Refusals.{Refused}
@@ -36,11 +35,10 @@ abbrev pub station_automaton : Choice Table Deadline → Automaton
 station_automaton (First t) = model t.edges.bytes.now
 station_automaton (Second d) = deadline d.a d.b d.m d.c
 
-module _ {g h : Ghosts (Choice Table Deadline)} where
-  -- and that of one, or of the pair of two
-  abbrev pub machine_automaton : Choice (Choice Table Deadline) (Pair (Choice Table Deadline) (Choice Table Deadline) g h) → Automaton
-  machine_automaton (First s) = station_automaton s
-  machine_automaton (Second p) = pair_of (station_automaton p.left) (station_automaton p.right)
+-- and that of one, or of the pair of two
+abbrev pub machine_automaton : Choice (Choice Table Deadline) (Pair (Choice Table Deadline) (Choice Table Deadline)) → Automaton
+machine_automaton (First s) = station_automaton s
+machine_automaton (Second p) = pair_of (station_automaton p.left) (station_automaton p.right)
 
 -- the parts themselves, of which a session shares the ownership
 abbrev pub shared : {Z : Type 0} → Named (Rc Part Z) → Named Part
