@@ -13,7 +13,8 @@ use std::marker::PhantomData;
 pub struct Bound<S> {
     // The code of the limit, or none where there is no limit.
     pub limit: Option<i64>,
-    scale: PhantomData<S>,
+    // Public, so that a bound can be written in a constant, where nothing may be called.
+    pub scale: PhantomData<S>,
 }
 
 // The largest constant, without sign, whose codes are read back.
