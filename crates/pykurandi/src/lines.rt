@@ -48,7 +48,9 @@ impl<'a, R: Files + Print + AllocGlobal> Console<'a, R> {
         String::from_utf8_lossy(self.rt.alloc(), name)
     }
 
-    // Loads a table under the name.
+    // Loads a table under the name. What builds tables stays out of line, here and below, so that a line that builds none sets
+    // up no room for them.
+    #[inline(never)]
     fn table(&mut self, name: &[u8], source: &[u8]) -> Result<(), Trouble> {
         let text = self.text(name)?;
         let file = self.read_source(source)?;
@@ -77,6 +79,7 @@ impl<'a, R: Files + Print + AllocGlobal> Console<'a, R> {
     }
 
     // Makes a pair under the name.
+    #[inline(never)]
     fn pair(&mut self, name: &[u8], left: &[u8], right: &[u8]) -> Result<(), Trouble> {
         let text = self.text(name)?;
         let left = self.part(left)?;
@@ -107,6 +110,7 @@ impl<'a, R: Files + Print + AllocGlobal> Console<'a, R> {
     }
 
     // Describes the machine with the name.
+    #[inline(never)]
     fn describe(&self, name: &[u8]) -> Result<(), Trouble> {
         let text = self.text(name)?;
         describe(self.rt, text.as_str(), &machine(self.named(name)?))?;
@@ -114,6 +118,7 @@ impl<'a, R: Files + Print + AllocGlobal> Console<'a, R> {
     }
 
     // Replays the steps on the machine with the name.
+    #[inline(never)]
     fn replay(&self, name: &[u8], grid: u32, words: &[&[u8]]) -> Result<(), Trouble> {
         let text = self.text(name)?;
         let word = steps(self.rt.alloc(), words)?;

@@ -1,6 +1,7 @@
 // A script, line by line.
 use crate::lines::Console;
 use crate::trouble::Trouble;
+use scripts::text::Lines;
 use std::io::Read;
 use std::{env, fs};
 
@@ -21,7 +22,7 @@ fn read_script(rt: &HostRuntime) -> anyhow::Result<Vec<u8>> {
 pub fn run(rt: &HostRuntime) -> anyhow::Result<()> {
     let script = read_script(rt)?;
     let mut console = Console::new(rt);
-    for (i, line) in script.as_slice().split(|b| *b == b'\n').enumerate() {
+    for (i, line) in Lines::of(script.as_slice()).enumerate() {
         let number = i + 1;
         match console.obey(line) {
             Err(Trouble::Fault(fault)) => println!(rt; "line {number}: error: {fault}")?,

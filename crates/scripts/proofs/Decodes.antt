@@ -55,3 +55,6 @@ pub unread : (ds : List ℕ) (e : FromHexError) → (e ≡ OutOfMemory) ⊎ (dec
 unread ds e (inl full) = rw full (inl refl)
 unread ds e (inr refused) =
     elim (decode_of-err ds e refused) [ inl odd ↦ inr (ap fault_of odd.1, not_hex ds e refused) | inr bad ↦ inr (ap fault_of bad.1, not_hex ds e refused) ]
+
+-- what the library decodes is what the definitions read
+pub ruleset decoding = (read_is_hex, unread)

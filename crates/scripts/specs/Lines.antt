@@ -1,5 +1,5 @@
 -- The words of a line: its parts between blanks.
-use Rattle.std.specs.Prelude.{◌≡◌, ℕ, ◌<◌, Bool, not, ◌||◌, List, length, take, drop, filter, Some, None, Option, ◌==◌}
+use Rattle.std.specs.Prelude.{◌≡◌, ℕ, ◌<◌, Bool, not, ◌||◌, List, [], length, take, drop, filter, Some, None, Option, ◌==◌}
 use Rattle.std.specs.Borrow.{Bor}
 use Rattle.std.specs.List.{prefix_len, slice_split}
 
@@ -26,6 +26,11 @@ past p bs = drop (prefix_len p bs) bs
 abbrev pub SplitAt : ℕ → List ℕ → Option (Bor (List ℕ) × Bor (List ℕ)) → Type 0
 SplitAt c bs None = length (past (other_than c) bs) ≡ 0
 SplitAt c bs (Some p) = (0 < length (past (other_than c) bs)) × (p.0.now ≡ front (other_than c) bs) × (p.1.now ≡ drop 1 (past (other_than c) bs))
+
+-- the first line of a text, without its line feed, and the text after it, or none where there is no text; 10 is the line feed
+abbrev pub NextLine : List ℕ → Option (Bor (List ℕ)) → List ℕ → Type 0
+NextLine text None after = (text ≡ []) × (after ≡ [])
+NextLine text (Some line) after = (0 < length text) × (line.now ≡ front (other_than 10) text) × (after ≡ drop 1 (past (other_than 10) text))
 
 -- what stands before a comment; 35 is '#'
 abbrev pub code_of : List ℕ → List ℕ

@@ -1,6 +1,7 @@
 // The words of a line.
 ghost use Rattle.std.specs.Prelude.{◌≡◌, ◌<◌, [], ◌∷◌, map, length, drop, IfOk, MatchOption};
-ghost use Rattle.scripts.specs.Lines.{blank, other_than, front, past, code_of, SplitAt, NextWord, words_in, words_of};
+ghost use Rattle.std.specs.Iterator.{at_most, item_count, YieldsFirstBy};
+ghost use Rattle.scripts.specs.Lines.{blank, other_than, front, past, code_of, SplitAt, NextLine, NextWord, words_in, words_of};
 
 use std::alloc::{AllocError, Global};
 
@@ -28,6 +29,37 @@ pub fn next_line(text: &[u8]) -> (&[u8], &[u8])
     split_once(text, b'\n').unwrap_or((text, &[]))
 }
 
+// The lines of a text, one after another; nothing follows the last line feed.
+#[derive(Drop)]
+pub struct Lines<'a> {
+    text: &'a [u8],
+}
+
+impl<'a> Lines<'a> {
+    pub fn of(text: &'a [u8]) -> Lines<'a>
+        ensures { result.text.now ≡ text.now }
+    {
+        Lines { text }
+    }
+}
+
+impl<'a> Iterator for Lines<'a> {
+    type Item = &'a [u8];
+
+    ghost next_gives = { λ lines line after. NextLine lines.text.now line after.text.now };
+
+    ghost remaining = { λ lines. at_most (length lines.text.now) };
+
+    fn next(&mut self) -> Option<&'a [u8]> {
+        if self.text.is_empty() {
+            return None;
+        }
+        let (line, after) = next_line(self.text);
+        self.text = after;
+        Some(line)
+    }
+}
+
 // The line without its comment, which a '#' begins.
 pub fn code(line: &[u8]) -> &[u8]
     ensures { result.now ≡ code_of line.now }
@@ -46,12 +78,29 @@ pub fn next_word(text: &[u8]) -> Option<(&[u8], &[u8])>
     Some(rest.split_at(end))
 }
 
+// The words of a text, one after another.
+#[derive(Drop)]
+struct EachWord<'a> {
+    text: &'a [u8],
+}
+
+impl<'a> Iterator for EachWord<'a> {
+    type Item = &'a [u8];
+
+    ghost next_gives = { YieldsFirstBy (λ word. word.now) (λ words. words_in words.text.now) };
+
+    ghost remaining = { item_count (λ words. words_in words.text.now) };
+
+    fn next(&mut self) -> Option<&'a [u8]> {
+        let (word, after) = next_word(self.text)?;
+        self.text = after;
+        Some(word)
+    }
+}
+
 // The words of the line, up to its comment.
 pub fn words<'a>(heap: Global, line: &'a [u8]) -> Result<Vec<&'a [u8]>, AllocError>
     ensures { IfOk result (λ v. map (λ x. x.now) v.items ≡ words_of line.now) }
 {
-    code(line)
-        .split(|b| is_blank(*b))
-        .filter(|word| !word.is_empty())
-        .collect(heap)
+    EachWord { text: code(line) }.collect(heap)
 }
