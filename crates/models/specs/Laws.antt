@@ -1,4 +1,5 @@
 pub mod Atoms
+pub mod Bytes
 pub mod Counts
 pub mod Files
 pub mod Models

@@ -1,6 +1,6 @@
 // Where the edges of an accepted file stand, so that each question takes a few reads.
 ghost use Rattle.std.specs.Prelude.{◌≡◌, ℕ, ◌<◌, ◌≤◌, length, slice_index};
-ghost use Rattle.models.specs.Format.{locations_of, Accepted};
+ghost use Rattle.models.specs.Format.{locations_of, from_of, Accepted};
 ghost use Rattle.models.specs.Model.{places_of, places_at, below, widest, labels_of};
 
 use crate::head;
@@ -22,13 +22,20 @@ pub(crate) struct Edges<'a> {
     ghost counted: { (l : ℕ) → l < 257 → slice_index first l ≡ below bytes.now l },
 }
 
-// How many of the edges at these places leave a location below `location`.
-fn count_below(bytes: &[u8], places: &[u32], location: usize) -> usize
-    requires { (Accepted bytes.now) × (places.now ≡ places_of bytes.now) }
+// How many of the edges at these places leave a location below `location`, where the first `known` do.
+fn count_below(bytes: &[u8], places: &[u32], location: usize, known: usize) -> usize
+    requires accepted { (Accepted bytes.now) × (places.now ≡ places_of bytes.now) }
+    requires known { (known ≤ length places.now) × ((k : ℕ) → k < known → from_of bytes.now (slice_index places.now k) < location) }
     ensures count { result ≡ below bytes.now location }
     ensures few { result ≤ 1024 }
+    ensures known { (result ≤ length places.now) × ((k : ℕ) → k < result → from_of bytes.now (slice_index places.now k) < location) }
 {
-    places.partition_point(|at| (Record { bytes, at: *at }.from() as usize) < location)
+    let more = places[known..].iter().position(|at| (Record { bytes, at: *at }.from() as usize)
+        >= location);
+    match more {
+        Some(more) => known + more,
+        None => places.len(),
+    }
 }
 
 impl<'a> Edges<'a> {
@@ -37,8 +44,11 @@ impl<'a> Edges<'a> {
         ensures { result.bytes.now ≡ bytes.now }
     {
         let mut first = [0; 257];
+        // From one location to the next the count goes on, so that each edge is passed once.
+        let mut count = 0;
         for (l, slot) in first.iter_mut().enumerate() {
-            *slot = count_below(bytes, &places, l) as u16;
+            count = count_below(bytes, &places, l, count);
+            *slot = count as u16;
         }
         Edges {
             bytes,

@@ -1,5 +1,5 @@
 // A model over the bytes of its file, which are lent and never copied.
-ghost use Rattle.std.specs.Prelude.{◌≡◌, true, length, MatchOption, MatchResult, is_ok, if◌then◌else◌, Decides, ◌≢◌};
+ghost use Rattle.std.specs.Prelude.{◌≡◌, ◌≤◌, true, length, IfSome, MatchOption, MatchResult, is_ok, if◌then◌else◌, Decides, ◌≢◌};
 ghost use Rattle.std.specs.List.{slice_get};
 ghost use Rattle.machines.specs.Automaton.{bare};
 ghost use Rattle.models.specs.Format.{locations_of, LawfulFile, verdict};
@@ -71,7 +71,8 @@ impl<'a> Table<'a> {
 
     // The k-th edge that leaves `location`.
     fn edge(&self, location: u32, k: u32) -> Option<Record<'a>>
-        ensures { MatchOption result (slice_get (places_at self.now.edges.bytes.now location) k ≡ None) (λ edge. (edge.bytes.now ≡ self.now.edges.bytes.now) × (slice_get (places_at self.now.edges.bytes.now location) k ≡ Some edge.at)) }
+        ensures edge { MatchOption result (slice_get (places_at self.now.edges.bytes.now location) k ≡ None) (λ edge. (edge.bytes.now ≡ self.now.edges.bytes.now) × (slice_get (places_at self.now.edges.bytes.now location) k ≡ Some edge.at)) }
+        ensures within { IfSome result (λ edge. edge.at ≤ 65536) }
     {
         let at = self.edges.leaving(location).get(k as usize)?;
         Some(self.edges.record(*at))

@@ -12,6 +12,7 @@ use Rattle.machines.specs.Comparisons.{code, coded}
 use Rattle.machines.specs.Laws.Lists.{all_nth}
 use Rattle.models.specs.Format.{locations_of, from_of, to_of, label_of, resets_of, count_of, place_of_atom, clock_of, comparison_of, constant_of, EdgeRecord, Accepted}
 use Rattle.models.specs.Model.{places_of, places_at, atom_read, edge_read, model}
+use Rattle.models.specs.Laws.Files.{accepted_parts}
 use Rattle.models.specs.Laws.Models.{edge_at_is}
 use Rattle.models.specs.Laws.Places.{places_lawful}
 
@@ -39,6 +40,10 @@ module _ (bs : List ℕ) (ok : Accepted bs) where
 
   lawful_at : (l k at : ℕ) → slice_get (places_at bs l) k ≡ Some at → EdgeRecord bs at
   lawful_at l k at e = all_nth (EdgeRecord bs) (places_at bs l) k at (all_kept_by (λ at. nat_eq (from_of bs at) l) (EdgeRecord bs) (places_of bs) (places_lawful bs ok)) e
+
+  -- an edge stands within the file
+  pub place_within : (l k at : ℕ) → slice_get (places_at bs l) k ≡ Some at → at ≤ 65536
+  place_within l k at e = omega (arith, (lawful_at l k at e).whole, (accepted_parts bs ok).0)
 
   module _ (l k at : ℕ) (e : Some at ≡ slice_get (places_at bs l) k) where
     pub head_answer : Some (label_of bs at, to_of bs at, resets_of bs at, count_of bs at) ≡ head_at (model bs) l k
