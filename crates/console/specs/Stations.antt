@@ -10,7 +10,7 @@ use Rattle.machines.specs.declared.refusal.Refusal.{Refusal}
 use Rattle.machines.specs.Refusals.{Refused}
 use Rattle.pairs.specs.Product.{fits_limits, pair_of, product}
 use Rattle.machines.specs.declared.choice.Choice.{Choice}
-use Rattle.machines.specs.declared.choice.Choice.TheVariants.{First, Second}
+use Rattle.machines.specs.declared.choice.Choice.TheVariants.{Both, First, Second}
 use Rattle.machines.specs.declared.deadline.Deadline.{Deadline}
 use Rattle.models.specs.declared.table.Table.{Table}
 use Rattle.pairs.specs.declared.pair.Pair.{Pair}
@@ -34,11 +34,13 @@ named_automaton (named.Pair l r) = pair_of (part_automaton l) (part_automaton r)
 abbrev pub station_automaton : Choice Table Deadline → Automaton
 station_automaton (First t) = model t.edges.bytes.now
 station_automaton (Second d) = deadline d.a d.b d.m d.c
+station_automaton (Both t d takes) = cond takes (deadline d.a d.b d.m d.c) (model t.edges.bytes.now)
 
 -- and that of one, or of the pair of two
 abbrev pub machine_automaton : Choice (Choice Table Deadline) (Pair (Choice Table Deadline) (Choice Table Deadline)) → Automaton
 machine_automaton (First s) = station_automaton s
 machine_automaton (Second p) = pair_of (station_automaton p.left) (station_automaton p.right)
+machine_automaton (Both s p takes) = cond takes (pair_of (station_automaton p.left) (station_automaton p.right)) (station_automaton s)
 
 -- the parts themselves, of which a session shares the ownership
 abbrev pub shared : {Z : Type 0} → Named (Rc Part Z) → Named Part

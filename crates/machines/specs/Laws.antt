@@ -1,3 +1,4 @@
+pub mod Choices
 pub mod Deadlines
 pub mod Lists
 pub mod Masks

@@ -1,4 +1,5 @@
 pub mod Automaton
+pub mod Choice
 pub mod Comparisons
 pub mod Deadline
 pub mod Refusals

@@ -1,6 +1,8 @@
 // One of two machines.
 ghost use Rattle.std.specs.Prelude.{◌≡◌, if◌then◌else◌};
-ghost use Rattle.machines.specs.declared.choice.Choice.TheVariants.{First, Second};
+ghost use Rattle.machines.specs.declared.choice.Choice.TheVariants.{Both, First, Second};
+ghost use Rattle.machines.specs.Choice.{taken};
+ghost use Rattle.machines.specs.Laws.Choices.{chosen_lawful};
 
 use crate::atom::Atom;
 use crate::machine::{Head, Machine};
@@ -11,73 +13,81 @@ use crate::machine::{Head, Machine};
 pub enum Choice<A, B> {
     First(A),
     Second(B),
+    // Two machines, and whether the second is taken.
+    Both(A, B, bool),
 }
 
-impl<A: Drop, B: Drop> Choice<A, B> {
+impl<A, B> Choice<A, B> {
     // The second machine where it is taken, and else the first.
+    // Both are kept, since a machine may be of a kind that cannot be let go.
     pub fn new(first: A, second: B, takes: bool) -> Self
-        ensures { result ≡ (if takes then Second second else First first) }
+        ensures both { result ≡ Both first second takes }
+        ensures takes { taken result ≡ (if takes then Second second else First first) }
     {
-        if takes {
-            Choice::Second(second)
-        } else {
-            Choice::First(first)
-        }
+        Choice::Both(first, second, takes)
     }
 }
 
 // A match each: a macro for the seven would be no plainer.
 impl<A: Machine, B: Machine> Machine for Choice<A, B> {
-    ghost meaning = { elim [ First m ↦ A.Machine.meaning m | Second m ↦ B.Machine.meaning m ] };
+    ghost meaning = { elim [
+      | First m ↦ A.Machine.meaning m
+      | Second m ↦ B.Machine.meaning m
+      | Both first second takes ↦ if takes then B.Machine.meaning second else A.Machine.meaning first
+    ] };
 
-    ghost lawful = { elim [ First m ↦ A.Machine.lawful m | Second m ↦ B.Machine.lawful m ] };
+    ghost lawful = { elim [
+      | First m ↦ A.Machine.lawful m
+      | Second m ↦ B.Machine.lawful m
+      | Both first second takes ↦ chosen_lawful takes (B.Machine.lawful second) (A.Machine.lawful first)
+    ] };
 
     fn locations(&self) -> u32 {
         match self {
-            Choice::First(m) => m.locations(),
-            Choice::Second(m) => m.locations(),
+            Choice::First(m) | Choice::Both(m, _, false) => m.locations(),
+            Choice::Second(m) | Choice::Both(_, m, true) => m.locations(),
         }
     }
 
     fn clocks(&self) -> u8 {
         match self {
-            Choice::First(m) => m.clocks(),
-            Choice::Second(m) => m.clocks(),
+            Choice::First(m) | Choice::Both(m, _, false) => m.clocks(),
+            Choice::Second(m) | Choice::Both(_, m, true) => m.clocks(),
         }
     }
 
     fn width(&self) -> u32 {
         match self {
-            Choice::First(m) => m.width(),
-            Choice::Second(m) => m.width(),
+            Choice::First(m) | Choice::Both(m, _, false) => m.width(),
+            Choice::Second(m) | Choice::Both(_, m, true) => m.width(),
         }
     }
 
     fn labels(&self) -> u32 {
         match self {
-            Choice::First(m) => m.labels(),
-            Choice::Second(m) => m.labels(),
+            Choice::First(m) | Choice::Both(m, _, false) => m.labels(),
+            Choice::Second(m) | Choice::Both(_, m, true) => m.labels(),
         }
     }
 
     fn edge_count(&self, location: u32) -> Option<u32> {
         match self {
-            Choice::First(m) => m.edge_count(location),
-            Choice::Second(m) => m.edge_count(location),
+            Choice::First(m) | Choice::Both(m, _, false) => m.edge_count(location),
+            Choice::Second(m) | Choice::Both(_, m, true) => m.edge_count(location),
         }
     }
 
     fn edge_head(&self, location: u32, k: u32) -> Option<Head> {
         match self {
-            Choice::First(m) => m.edge_head(location, k),
-            Choice::Second(m) => m.edge_head(location, k),
+            Choice::First(m) | Choice::Both(m, _, false) => m.edge_head(location, k),
+            Choice::Second(m) | Choice::Both(_, m, true) => m.edge_head(location, k),
         }
     }
 
     fn atom(&self, location: u32, k: u32, i: u32) -> Option<Atom> {
         match self {
-            Choice::First(m) => m.atom(location, k, i),
-            Choice::Second(m) => m.atom(location, k, i),
+            Choice::First(m) | Choice::Both(m, _, false) => m.atom(location, k, i),
+            Choice::Second(m) | Choice::Both(_, m, true) => m.atom(location, k, i),
         }
     }
 }

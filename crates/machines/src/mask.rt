@@ -18,7 +18,9 @@ pub fn has_label(mask: u32, label: u8) -> bool
 pub fn kth_label(mask: u32, k: u32) -> Option<u8>
     ensures { result ≡ slice_get (labels_in mask) k }
 {
-    (0..32)
-        .filter(|label| has_label(mask, *label))
-        .nth(k as usize)
+    if k >= mask.count_ones() {
+        return None;
+    }
+    let rest = (0..k).fold(mask, |rest, _| rest & rest.wrapping_sub(1));
+    Some(rest.trailing_zeros() as u8)
 }

@@ -1,13 +1,21 @@
-use Rattle.std.proofs.Common.{sym, refl, ◌∙◌, arith, rules}
+use Rattle.std.proofs.Common.{Some, ◌<◌, length, sym, refl, ap, ◌∙◌, arith, rules}
 use Rattle.std.proofs.lemmas.Iterator.{YieldsList-from_range}
-use Rattle.std.proofs.lemmas.Iterator.Consumers.{YieldsList-at, YieldsList-from_filter, nth_from_yields_List}
-use Rattle.std.proofs.lemmas.Iterator.Adapters.{option_map_id}
-use Rattle.machines.specs.Automaton.{has}
+use Rattle.std.proofs.lemmas.Iterator.Consumers.{fold_from_yields_List}
+use Rattle.std.proofs.lemmas.List.FromFn.{length-range_with_len}
+use Rattle.std.proofs.lemmas.Option.{slice_get_past}
+use Rattle.std.specs.Int.Count.{count_trailing_zeros, ones}
+use Rattle.std.specs.List.{slice_get, range_with_len}
 use Rattle.machines.specs.Deadline.{labels_in}
+use Rattle.machines.specs.Laws.Masks.{cleared, length-labels, nth_label}
 use Rattle.machines.proofs.mask.kth_label.Goals as goal
 
+pub returns-then-k-mask : goal.returns-then-k-mask
+returns-then-k-mask c = sym (slice_get_past (labels_in c.args.mask) c.args.k (omega (arith, length-labels c.args.mask c.ranges.mask.fits)))
+
 pub returns : goal.returns
-unfolding labels_in
 returns c =
-    let is = nth_from_yields_List c.nth.result _ _ c.nth.ensures.ran (YieldsList-from_filter _ (has c.args.mask) (YieldsList-at c.filter.ensures.source (YieldsList-from_range 0 32 32 refl (omega arith))) c.filter.ensures.closure (λ x b q k. search rules)) in
-    sym (option_map_id c.nth.result) ∙ is
+    let turns = range_with_len 0 c.args.k in
+    let count = length-range_with_len 0 c.args.k in
+    let rest = fold_from_yields_List _ (λ m _. cleared m) c.args.mask c.fold-rest.result c.fold-rest.ensures.ran (YieldsList-from_range 0 c.args.k c.args.k refl (omega arith)) (λ a x b q k. search rules) in
+    let more : length turns < ones c.args.mask = omega (arith, count) in
+    ap (λ n. Some (count_trailing_zeros 32 n)) rest ∙ sym (nth_label turns c.args.mask c.ranges.mask.fits more) ∙ ap (slice_get (labels_in c.args.mask)) count
