@@ -110,11 +110,11 @@ lowest_label m some h =
     labels_set_bits m ∙ lowest 32 0 m some h ∙ ap₂ (λ n xs. n ∷ xs) (zero-add (count_trailing_zeros 32 m)) (sym (labels_set_bits (bit_and m (m - 1))))
 
 -- a mask with its lowest label cleared
-abbrev pub cleared : ℕ → ℕ
-cleared m = bit_and m ((m + (2 ^ 32 - 1)) % 2 ^ 32)
+abbrev pub without_lowest : ℕ → ℕ
+without_lowest m = bit_and m ((m + (2 ^ 32 - 1)) % 2 ^ 32)
 
 -- with its k lowest labels cleared, a mask has its k-th label as its lowest
-pub nth_label : (xs : List ℕ) (m : ℕ) → m < 2 ^ 32 → length xs < ones m → slice_get (labels_in m) (length xs) ≡ Some (count_trailing_zeros 32 (fold (λ n x. cleared n) m xs))
+pub nth_label : (xs : List ℕ) (m : ℕ) → m < 2 ^ 32 → length xs < ones m → slice_get (labels_in m) (length xs) ≡ Some (count_trailing_zeros 32 (fold (λ n x. without_lowest n) m xs))
 nth_label [] m small more = ap (λ ls. slice_get ls 0) (lowest_label m (omega (arith, ones_le_self m)) small)
 nth_label (x ∷ xs) m small more =
     let some : 0 < m = omega (arith, ones_le_self m) in
