@@ -180,6 +180,19 @@ mod tests {
         Ok(())
     }
 
+    // What another thread may have.
+    fn sent<T: Send + Sync>(x: T) -> T {
+        x
+    }
+
+    #[test]
+    fn a_session_can_be_sent(rt: HostRuntime) -> Result<(), Fail> {
+        let session = sent(Session::new(rt.alloc()));
+        assert_eq!(rt; locations(&session, b"door"), None);
+        assert!(rt; session.parts_of(Named::Pair(0, 1)).is_none());
+        Ok(())
+    }
+
     #[test]
     fn a_pair_keeps_its_parts(rt: HostRuntime) -> Result<(), Fail> {
         let heap = rt.alloc();
