@@ -1,1 +1,2 @@
 mod Entries
+mod Replays

@@ -1,29 +1,43 @@
 -- What the names of a session stand for.
-use Rattle.std.specs.Prelude.{◌≡◌, ℕ, Bool, true, false, List, map, is_some, vec_items, Vec, MatchBool}
+use Rattle.std.specs.Prelude.{◌≡◌, ℕ, Bool, true, false, List, ◌∷◌, [], ◌++◌, map, length, is_some, vec_items, Vec, MatchBool, Option}
 use Rattle.std.specs.Ordering.{nat_cmp}
 use Rattle.std.specs.Cmp.Lexicographic.{slice_cmp}
 use Rattle.std.specs.FinMap.{FinMap, get, insert, from_entries}
 use Rattle.std.specs.BTreeMap.{BTreeMap}
-use Rattle.std.specs.declared.rc.Rc.{Rc}
+use Rattle.std.specs.List.{slice_get}
+use Rattle.std.specs.Option.{option_map, option_and_then}
 use Rattle.console.specs.declared.part.Part.{Part}
-use Rattle.console.specs.declared.part.Part.TheVariants.{Bare}
+use Rattle.console.specs.declared.part.Part.TheVariants as part
 use Rattle.console.specs.declared.named.Named.{Named}
 use Rattle.console.specs.declared.named.Named.TheVariants as named
-use Rattle.console.specs.Stations.{shared}
 
--- each name with the part that it stands for, or the two parts of its pair
+-- each name with the number of the part that it stands for, or those of the two parts of its pair
 abbrev pub Names : Type 0
-Names = FinMap (slice_cmp nat_cmp) (Named Part)
+Names = FinMap (slice_cmp nat_cmp) (Named ℕ)
 
-module _ {Y Z : Type 0} where
+module _ {X Y : Type 0} where
   -- a name and what it stands for, as a session keeps them
-  abbrev pub entry : Vec ℕ Y × Named (Rc Part Z) → List ℕ × Named Part
-  entry e = (vec_items e.0, shared e.1)
+  abbrev pub entry : Vec ℕ Y × X → List ℕ × X
+  entry e = (vec_items e.0, e.1)
 
-  abbrev pub read : BTreeMap (Vec ℕ Y) (Named (Rc Part Z)) → Names
+  abbrev pub read : BTreeMap (Vec ℕ Y) X → FinMap (slice_cmp nat_cmp) X
   read m = from_entries (map entry m.entries)
 
--- the names after a table is loaded: a refused file leaves a name that stands for something as it was, and gives a new one to the bare location
-abbrev pub Loaded : Bool → List ℕ → Part → Names → Names → Type 0
-Loaded true name table old new = new ≡ insert old name (named.Part table)
-Loaded false name table old new = MatchBool (is_some (get old name)) (new ≡ old) (new ≡ insert old name (named.Part Bare))
+-- what a session has: its parts, by number, and its names
+pub record Contents : Type 0 where
+  pub parts : List Part
+  pub names : Names
+
+-- a session with one part more, to which the name is given
+abbrev pub defined : Contents → List ℕ → Part → Contents
+defined old name p = record { parts = old.parts ++ p ∷ []; names = insert old.names name (named.Part (length old.parts)) }
+
+-- a session after a table is loaded: a refused file leaves a name that stands for something as it was, and gives a new one to the bare location
+abbrev pub Loaded : Bool → List ℕ → Part → Contents → Contents → Type 0
+Loaded true name table old new = new ≡ defined old name table
+Loaded false name table old new = MatchBool (is_some (get old.names name)) (new ≡ old) (new ≡ defined old name part.Bare)
+
+-- the parts of the numbers, or none where a number is that of no part
+abbrev pub parts_of : List Part → Named ℕ → Option (Named Part)
+parts_of parts (named.Part i) = option_map named.Part (slice_get parts i)
+parts_of parts (named.Pair i j) = option_and_then (λ l. option_map (named.Pair l) (slice_get parts j)) (slice_get parts i)

@@ -1,6 +1,6 @@
 -- The machines that a script makes, and what they are answered.
 use Rattle.std.specs.Prelude.{◌≡◌, ℕ, true, false, cond, List, length, is_ok, Ok, Err, vec_items, Result, MatchResult}
-use Rattle.std.specs.declared.rc.Rc.{Rc}
+use Rattle.std.specs.Borrow.{Bor}
 use Rattle.machines.specs.Automaton.{Automaton, bare}
 use Rattle.machines.specs.Deadline.{deadline}
 use Rattle.models.specs.Format.{verdict}
@@ -42,10 +42,10 @@ machine_automaton (First s) = station_automaton s
 machine_automaton (Second p) = pair_of (station_automaton p.left) (station_automaton p.right)
 machine_automaton (Both s p takes) = cond takes (pair_of (station_automaton p.left) (station_automaton p.right)) (station_automaton s)
 
--- the parts themselves, of which a session shares the ownership
-abbrev pub shared : {Z : Type 0} → Named (Rc Part Z) → Named Part
-shared (named.Part p) = named.Part p.value
-shared (named.Pair l r) = named.Pair l.value r.value
+-- the parts that are lent
+abbrev pub lent : Named (Bor Part) → Named Part
+lent (named.Part p) = named.Part p.now
+lent (named.Pair l r) = named.Pair l.now r.now
 
 -- the numbers of the automaton as a whole
 abbrev pub Sums : Summary → Automaton → Type 0

@@ -1,5 +1,5 @@
 // What the machines that a script names answer.
-ghost use Rattle.console.specs.Stations.{ModelRead, Paired, named_automaton, part_automaton, shared};
+ghost use Rattle.console.specs.Stations.{ModelRead, Paired, lent, named_automaton, part_automaton};
 ghost use Rattle.pairs.specs.Product.{pair_of};
 ghost use Rattle.words.specs.Replays.{word_of, Replayed};
 
@@ -9,7 +9,6 @@ use machines::machine::{Summary, summarize};
 use machines::refusal::Refusal;
 use models::table::Table;
 use pairs::pair::Pair;
-use std::rc::Rc;
 use words::replay::replay;
 use words::word::Letter;
 
@@ -39,15 +38,17 @@ pub fn replay_part(part: &Part, grid: u32, word: &[Letter]) -> Result<bool, Refu
 }
 
 // What the word is answered on the pair of the two parts.
+#[tactic(auto, using(crate::proofs::Replays::on_same))]
 pub fn replay_pair(left: &Part, right: &Part, grid: u32, word: &[Letter]) -> Result<bool, Refusal>
     ensures { Replayed (pair_of (part_automaton left.now) (part_automaton right.now)) grid (word_of word.now) result }
 {
     replay(&Pair::new(station(left), station(right)), grid, word)
 }
 
-// What the word is answered on the machine that the name stands for.
-pub fn replay_named(named: &Named<Rc<Part>>, grid: u32, word: &[Letter]) -> Result<bool, Refusal>
-    ensures { Replayed (named_automaton (shared named.now)) grid (word_of word.now) result }
+// What the word is answered on the machine that the parts make.
+#[tactic(auto, using(crate::proofs::Replays::on_same))]
+pub fn replay_named(named: Named<&Part>, grid: u32, word: &[Letter]) -> Result<bool, Refusal>
+    ensures { Replayed (named_automaton (lent named.entry)) grid (word_of word.now) result }
 {
     match named {
         Named::Part(part) => replay_part(part, grid, word),

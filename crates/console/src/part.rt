@@ -40,9 +40,10 @@ pub fn station<'a>(part: &'a Part) -> Station<'a>
 {
     match part {
         Part::Bare => Choice::First(Table::bare()),
-        Part::Table(file) => {
-            Choice::First(Table::read(file.as_slice()).unwrap_or(Table::bare()))
-        }
+        Part::Table(file) => match Table::read(file.as_slice()) {
+            Ok(table) => Choice::First(table),
+            Err(_) => Choice::First(Table::bare()),
+        },
         Part::Deadline(deadline) => Choice::Second(*deadline),
     }
 }

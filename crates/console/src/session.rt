@@ -1,8 +1,9 @@
 // The names of a script and what they stand for.
-ghost use Rattle.std.specs.Prelude.{◌≡◌, is_ok, IfOk, OnOk, OnErr};
-ghost use Rattle.std.specs.Option.{option_map, option_copied};
+ghost use Rattle.std.specs.Prelude.{◌≡◌, [], is_ok, IfOk, OnOk, OnErr};
+ghost use Rattle.std.specs.List.{slice_get};
+ghost use Rattle.std.specs.Option.{option_map};
 ghost use Rattle.std.specs.FinMap.{empty, get, insert};
-ghost use Rattle.console.specs.Stations.{ModelRead};
+ghost use Rattle.console.specs.Stations.{ModelRead, lent};
 
 use crate::answer::read_model;
 use crate::named::Named;
@@ -12,54 +13,74 @@ use machines::refusal::Refusal;
 use std::alloc::{AllocError, Global};
 use std::collections::BTreeMap;
 use std::marker::Model;
-use std::rc::Rc;
 
 // A name may be given again, and then stands for what it was given last; a pair keeps the parts that it was made of.
 #[derive(Drop)]
 pub struct Session {
     heap: Global,
-    names: BTreeMap<Vec<u8>, Named<Rc<Part>>>,
+    parts: Vec<Part>,
+    names: BTreeMap<Vec<u8>, Named>,
 }
 
 impl Model for Session {
-    ghost use Rattle.console.specs.Names.{Names, read};
+    ghost use Rattle.std.specs.Prelude.{refl};
+    ghost use Rattle.console.specs.Names.{Contents, read};
     ghost use Rattle.std.specs.FinMap.{code};
-    ghost use Rattle.std.specs.Coded.{coded_list, coded_ℕ};
+    ghost use Rattle.std.specs.Coded.{code_by, coded×, coded_list, coded_ℕ};
+    ghost use Rattle.std.specs.Borrow.{usize as number};
     ghost use Rattle.console.specs.contracts.part.Part as part;
     ghost use Rattle.console.specs.contracts.named.Named as named;
 
-    ghost Value = { Names };
+    ghost Value = { Contents };
 
-    ghost coded = { code (coded_list coded_ℕ) (named.the_row part.the_row).coded };
+    ghost coded = { code_by _ (coded× (coded_list part.the_row.coded) (code (coded_list coded_ℕ) (named.the_row number).coded)) (λ s. (s.parts, s.names)) (λ s. record { parts = s.0; names = s.1 }) (λ _. refl) };
 
-    ghost view = { λ s. read s.names };
+    ghost view = { λ s. record { parts = s.parts.items; names = read s.names } };
 }
 
 impl Session {
-    ghost use Rattle.console.specs.Stations.{shared};
-    ghost use Rattle.console.specs.Names.{Loaded};
+    ghost use Rattle.console.specs.Names.{Loaded, defined, parts_of};
 
     pub fn new(heap: Global) -> Session
-        ensures { result ≡ empty }
+        ensures { (result.parts ≡ []) × (result.names ≡ empty) }
     {
         Session {
             heap,
+            parts: Vec::new(heap),
             names: BTreeMap::new(heap),
         }
     }
 
     // What the name stands for.
     #[tactic(auto, using(crate::proofs::Entries::reading))]
-    pub fn find(&self, name: &[u8]) -> Option<&Named<Rc<Part>>>
-        ensures { option_map shared (option_copied result) ≡ get self.now name.now }
+    pub fn find(&self, name: &[u8]) -> Option<Named>
+        ensures { result ≡ get self.now.names name.now }
     {
-        self.names.get(name)
+        self.names.get(name).copied()
     }
 
-    // Gives the name to what there is. Where memory fails no name changes.
+    // The part of this number.
+    pub fn part(&self, i: usize) -> Option<&Part>
+        ensures { option_map (λ x. x.now) result ≡ slice_get self.now.parts i }
+    {
+        self.parts.get(i)
+    }
+
+    // The parts of these numbers, or none where a number is that of no part.
+    pub fn parts_of(&self, named: Named) -> Option<Named<&Part>>
+        ensures { option_map lent result ≡ parts_of self.now.parts named }
+    {
+        match named {
+            Named::Part(i) => Some(Named::Part(self.part(i)?)),
+            Named::Pair(i, j) => Some(Named::Pair(self.part(i)?, self.part(j)?)),
+        }
+    }
+
+    // Gives the name to what there is. Where memory fails nothing changes.
     #[tactic(auto, using(crate::proofs::Entries::reading))]
-    fn bind(&mut self, name: &[u8], what: Named<Rc<Part>>) -> Result<(), AllocError>
-        ensures ok { OnOk result (self.new ≡ insert self.old name.now (shared what)) }
+    fn bind(&mut self, name: &[u8], what: Named) -> Result<(), AllocError>
+        ensures parts { self.new.parts ≡ self.old.parts }
+        ensures names { OnOk result (self.new.names ≡ insert self.old.names name.now what) }
         ensures err { OnErr result (self.new ≡ self.old) }
     {
         let name = Vec::from_slice(self.heap, name)?;
@@ -67,13 +88,18 @@ impl Session {
         Ok(())
     }
 
-    // Gives the name to a new part. Where memory fails no name changes.
+    // Gives the name to a new part. Where memory fails nothing changes.
     pub fn define(&mut self, name: &[u8], part: Part) -> Result<(), AllocError>
-        ensures ok { OnOk result (self.new ≡ insert self.old name.now (Named.Part part)) }
+        ensures ok { OnOk result (self.new ≡ defined self.old name.now part) }
         ensures err { OnErr result (self.new ≡ self.old) }
     {
-        let part = Rc::new(self.heap, part)?;
-        self.bind(name, Named::Part(part))
+        let number = self.parts.len();
+        self.parts.push(part)?;
+        let bound = self.bind(name, Named::Part(number));
+        if bound.is_err() {
+            self.parts.truncate(number);
+        }
+        bound
     }
 
     // Loads a table under the name and answers its numbers. Where the file is refused the name stands for what it did, and a
@@ -100,9 +126,10 @@ impl Session {
         }
     }
 
-    // Gives the name to the pair of two parts. Where memory fails no name changes.
-    pub fn join(&mut self, name: &[u8], left: Rc<Part>, right: Rc<Part>) -> Result<(), AllocError>
-        ensures ok { OnOk result (self.new ≡ insert self.old name.now (Named.Pair left.value right.value)) }
+    // Gives the name to the pair of two parts. Where memory fails nothing changes.
+    pub fn join(&mut self, name: &[u8], left: usize, right: usize) -> Result<(), AllocError>
+        ensures parts { self.new.parts ≡ self.old.parts }
+        ensures names { OnOk result (self.new.names ≡ insert self.old.names name.now (Named.Pair left right)) }
         ensures err { OnErr result (self.new ≡ self.old) }
     {
         self.bind(name, Named::Pair(left, right))
@@ -124,13 +151,15 @@ mod tests {
 
     // How many locations the machine with the name has.
     fn locations(session: &Session, name: &[u8]) -> Option<u32> {
-        session.find(name).map(|named| machine(named).locations())
+        let named = session.find(name)?;
+        let parts = session.parts_of(named)?;
+        Some(machine(parts).locations())
     }
 
-    // The part with the name.
-    fn part(session: &Session, name: &[u8]) -> Result<Rc<Part>, Fail> {
+    // The number of the part with the name.
+    fn number(session: &Session, name: &[u8]) -> Result<usize, Fail> {
         match session.find(name) {
-            Some(Named::Part(part)) => Ok(part.clone()?),
+            Some(Named::Part(number)) => Ok(number),
             _ => Err("no part".into()),
         }
     }
@@ -142,12 +171,25 @@ mod tests {
         assert_eq!(rt; locations(&session, b"door"), None);
         session.load(b"door", model(heap, 3)?)??;
         session.define(b"rule", Part::Deadline(Deadline::new(0, 1, 3, 5)?))?;
-        let door = part(&session, b"door")?;
-        let rule = part(&session, b"rule")?;
+        let door = number(&session, b"door")?;
+        let rule = number(&session, b"rule")?;
         session.join(b"ruled", door, rule)?;
         assert_eq!(rt; locations(&session, b"door"), Some(3));
         assert_eq!(rt; locations(&session, b"rule"), Some(2));
         assert_eq!(rt; locations(&session, b"ruled"), Some(6));
+        Ok(())
+    }
+
+    // What another thread may have.
+    fn sent<T: Send + Sync>(x: T) -> T {
+        x
+    }
+
+    #[test]
+    fn a_session_can_be_sent(rt: HostRuntime) -> Result<(), Fail> {
+        let session = sent(Session::new(rt.alloc()));
+        assert_eq!(rt; locations(&session, b"door"), None);
+        assert!(rt; session.parts_of(Named::Pair(0, 1)).is_none());
         Ok(())
     }
 
@@ -156,8 +198,8 @@ mod tests {
         let heap = rt.alloc();
         let mut session = Session::new(heap);
         session.load(b"door", model(heap, 3)?)??;
-        let door = part(&session, b"door")?;
-        session.join(b"both", door.clone()?, door)?;
+        let door = number(&session, b"door")?;
+        session.join(b"both", door, door)?;
         session.load(b"door", model(heap, 5)?)??;
         assert_eq!(rt; locations(&session, b"door"), Some(5));
         assert_eq!(rt; locations(&session, b"both"), Some(9));

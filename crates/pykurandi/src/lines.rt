@@ -14,7 +14,6 @@ use scripts::statement::{DeadlineNumbers, Statement, parse};
 use scripts::{digits, text};
 use std::alloc::AllocError;
 use std::fs;
-use std::rc::Rc;
 use std::rt::Files;
 use std::str::from_utf8;
 
@@ -82,9 +81,9 @@ impl<'a, R: Files + Print + AllocGlobal> Console<'a, R> {
     #[inline(never)]
     fn pair(&mut self, name: &[u8], left: &[u8], right: &[u8]) -> Result<(), Trouble> {
         let text = self.text(name)?;
-        let left = self.part(left)?;
-        let right = self.part(right)?;
-        match read_pair(&left, &right) {
+        let (left, left_part) = self.part(left)?;
+        let (right, right_part) = self.part(right)?;
+        match read_pair(left_part, right_part) {
             Ok(sum) => {
                 self.session.join(name, left, right)?;
                 print!(self.rt; "pair {text}: ")?;
@@ -95,17 +94,26 @@ impl<'a, R: Files + Print + AllocGlobal> Console<'a, R> {
         Ok(())
     }
 
-    // The table or deadline with the name.
-    fn part(&self, name: &[u8]) -> Result<Rc<Part>, Fault> {
-        match self.session.find(name) {
-            Some(Named::Part(part)) => Ok(part.clone()?),
-            Some(Named::Pair(_, _)) => Err(Fault::Paired),
-            None => Err(Fault::Missing),
+    // The table or deadline with the name, and its number.
+    fn part(&self, name: &[u8]) -> Result<(usize, &Part), Fault> {
+        match self.named(name)? {
+            Named::Part(number) => {
+                let part = self.session.part(number).ok_or(Fault::Missing)?;
+                Ok((number, part))
+            }
+            Named::Pair(_, _) => Err(Fault::Paired),
         }
     }
 
+    // The parts that the name stands for.
+    fn parts(&self, name: &[u8]) -> Result<Named<&Part>, Fault> {
+        self.session
+            .parts_of(self.named(name)?)
+            .ok_or(Fault::Missing)
+    }
+
     // What the name stands for.
-    fn named(&self, name: &[u8]) -> Result<&Named<Rc<Part>>, Fault> {
+    fn named(&self, name: &[u8]) -> Result<Named, Fault> {
         self.session.find(name).ok_or(Fault::Missing)
     }
 
@@ -113,7 +121,7 @@ impl<'a, R: Files + Print + AllocGlobal> Console<'a, R> {
     #[inline(never)]
     fn describe(&self, name: &[u8]) -> Result<(), Trouble> {
         let text = self.text(name)?;
-        describe(self.rt, text.as_str(), &machine(self.named(name)?))?;
+        describe(self.rt, text.as_str(), &machine(self.parts(name)?))?;
         Ok(())
     }
 
@@ -122,7 +130,7 @@ impl<'a, R: Files + Print + AllocGlobal> Console<'a, R> {
     fn replay(&self, name: &[u8], grid: u32, words: &[&[u8]]) -> Result<(), Trouble> {
         let text = self.text(name)?;
         let word = steps(self.rt.alloc(), words)?;
-        match replay_named(self.named(name)?, grid, word.as_slice()) {
+        match replay_named(self.parts(name)?, grid, word.as_slice()) {
             Ok(true) => println!(self.rt; "replay {text}: word")?,
             Ok(false) => println!(self.rt; "replay {text}: not a word")?,
             Err(why) => println!(self.rt; "replay {text}: {why}")?,
