@@ -38,7 +38,7 @@ pub fn replay_part(part: &Part, grid: u32, word: &[Letter]) -> Result<bool, Refu
 }
 
 // What the word is answered on the pair of the two parts.
-#[tactic(auto, using(crate::proofs::Replays::on_same))]
+#[tactic(auto, using(crate::proofs::Replays::on_pair))]
 pub fn replay_pair(left: &Part, right: &Part, grid: u32, word: &[Letter]) -> Result<bool, Refusal>
     ensures { Replayed (pair_of (part_automaton left.now) (part_automaton right.now)) grid (word_of word.now) result }
 {

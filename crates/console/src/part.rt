@@ -40,10 +40,13 @@ pub fn station<'a>(part: &'a Part) -> Station<'a>
 {
     match part {
         Part::Bare => Choice::First(Table::bare()),
-        Part::Table(file) => match Table::read(file.as_slice()) {
-            Ok(table) => Choice::First(table),
-            Err(_) => Choice::First(Table::bare()),
-        },
+        Part::Table(file) => {
+            let table = match Table::read(file.as_slice()) {
+                Ok(table) => table,
+                Err(_) => Table::bare(),
+            };
+            Choice::First(table)
+        }
         Part::Deadline(deadline) => Choice::Second(*deadline),
     }
 }
