@@ -1,39 +1,41 @@
 -- The names that a map is read as.
-use Rattle.std.proofs.Common.{◌≡◌, ℕ, Bool, true, false, List, [], ◌∷◌, map, Vec, vec_items, Some, cond, nat_eq, refl, ap, sym, ◌∙◌}
-use Rattle.std.specs.Ordering.{nat_cmp}
-use Rattle.std.specs.Cmp.Lexicographic.{slice_cmp, pointwise, bytes_decides, texts_ties, nat_list_eq_equiv, nat_list_cmp_total}
-use Rattle.std.specs.FinMap.{get, insert, find, get-from_entries, get-insert, same_map, slice_cmp-IsAntisymmetric, nat_cmp-IsAntisymmetric}
-use Rattle.std.specs.Map.{lookup, KeepsOthers}
-use Rattle.std.specs.HashMap.{HashMap, get_by, Updates}
+use Rattle.std.proofs.Common.{◌≡◌, ℕ, List, [], ◌∷◌, map, Vec, vec_items, Some, cond, refl, ap, sym, ◌∙◌}
+use Rattle.std.specs.Ordering.{nat_cmp, match_ordering}
+use Rattle.std.specs.declared.cmp.Ordering.TheVariants.{Less, Equal, Greater}
+use Rattle.std.specs.Cmp.Lexicographic.{slice_cmp, nat_list_cmp_total}
+use Rattle.std.specs.FinMap.{get, insert, find, put, get-from_entries, get-insert, same_map, slice_cmp-IsAntisymmetric, nat_cmp-IsAntisymmetric}
+use Rattle.std.specs.FinMap.Entries.{by_order, find-put}
+use Rattle.std.specs.Map.{lookup}
+use Rattle.std.specs.BTreeMap.{BTreeMap, get_by, is_at, insert_entry}
 use Rattle.console.specs.Names.{entry, read}
 
--- whether a key is this name
-abbrev pub is : {Y : Type 0} → List ℕ → Vec ℕ Y → Bool
-is q k = pointwise nat_eq q (vec_items k)
-
--- a key is not two names
-apart : {Y : Type 0} (q k : List ℕ) → pointwise nat_eq q k ≡ false → (x : Vec ℕ Y) → is k x ≡ true → is q x ≡ false
-apart q k other x same = sym (ap (pointwise nat_eq q) ((bytes_decides k (vec_items x)).0 same)) ∙ other
-
 module _ {X Y : Type 0} where
-  found : (q : List ℕ) (es : List (Vec ℕ Y × X)) → find (slice_cmp nat_cmp) q (map entry es) ≡ lookup (is q) es
+  found : (q : List ℕ) (es : List (Vec ℕ Y × X)) → find (slice_cmp nat_cmp) q (map entry es) ≡ lookup (is_at (λ k. slice_cmp nat_cmp q (vec_items k))) es
   found q [] = refl
-  found q (e ∷ es) = λ i. cond (sym (texts_ties q (vec_items e.0)) i) (Some e.1) (found q es i)
+  found q (e ∷ es) = ap (cond (is_at (λ k. slice_cmp nat_cmp q (vec_items k)) e.0) (Some e.1)) (found q es)
 
   -- a name is read as what it has in the map
-  pub get-read : {S : Type 0} → (m : HashMap (Vec ℕ Y) X S) (q : List ℕ) → get (read m) q ≡ get_by (is q) m
+  pub get-read : (m : BTreeMap (Vec ℕ Y) X) (q : List ℕ) → get (read m) q ≡ get_by (λ k. slice_cmp nat_cmp q (vec_items k)) m
   get-read m q = get-from_entries nat_list_cmp_total (map entry m.entries) q ∙ found q m.entries
 
+  putting : (k : Vec ℕ Y) (v : X) (es : List (Vec ℕ Y × X)) → map entry (insert_entry (λ x y. slice_cmp nat_cmp (vec_items x) (vec_items y)) es k v) ≡ put (slice_cmp nat_cmp) (vec_items k) v (map entry es)
+  putting k v [] = refl
+  putting k v (e ∷ es) =
+      elim (slice_cmp nat_cmp (vec_items k) (vec_items e.0)) as (λ o. map entry (match_ordering o ((k, v) ∷ e ∷ es) ((e.0, v) ∷ es) (e ∷ insert_entry (λ x y. slice_cmp nat_cmp (vec_items x) (vec_items y)) es k v))
+      ≡ by_order o ((vec_items k, v) ∷ map entry (e ∷ es)) ((vec_items e.0, v) ∷ map entry es) (entry e ∷ put (slice_cmp nat_cmp) (vec_items k) v (map entry es))) [
+        | Less ↦ refl
+        | Equal ↦ refl
+        | Greater ↦ ap (λ rest. entry e ∷ rest) (putting k v es)
+      ]
+
   -- a map with a name more is read as the names with that one
-  pub read-insert : {S : Type 0} → (m n : HashMap (Vec ℕ Y) X S) (k : Vec ℕ Y) (v : X) → Updates (λ x y. is (vec_items x) y) m n k (Some v) → read n ≡ insert (read m) (vec_items k) v
-  unfolding KeepsOthers
-  read-insert m n k v new =
+  pub read-insert : (m n : BTreeMap (Vec ℕ Y) X) (k : Vec ℕ Y) (v : X) → n.entries ≡ insert_entry (λ x y. slice_cmp nat_cmp (vec_items x) (vec_items y)) m.entries k v → read n ≡ insert (read m) (vec_items k) v
+  read-insert m n k v is =
       same_map nat_list_cmp_total (slice_cmp-IsAntisymmetric nat_cmp-IsAntisymmetric) (read n) (insert (read m) (vec_items k) v) (λ q.
-      get-read n q ∙ changed q (pointwise nat_eq q (vec_items k)) refl ∙ sym (get-insert nat_list_cmp_total (read m) (vec_items k) v q ∙ (λ i. cond (sym (texts_ties q (vec_items k)) i) (Some v) (get-read m q i))))
-    where
-      changed : (q : List ℕ) (b : Bool) → pointwise nat_eq q (vec_items k) ≡ b → get_by (is q) n ≡ cond b (Some v) (get_by (is q) m)
-      changed q true same = ap (λ p. get_by (is p) n) ((bytes_decides q (vec_items k)).0 same) ∙ new.1
-      changed q false other = new.3 (is q) (λ x y. nat_list_eq_equiv.congr q (vec_items x) (vec_items y)) (apart q (vec_items k) other)
+      get-from_entries nat_list_cmp_total (map entry n.entries) q
+      ∙ ap (find (slice_cmp nat_cmp) q) (ap (map entry) is ∙ putting k v m.entries)
+      ∙ find-put (slice_cmp nat_cmp) nat_list_cmp_total q (vec_items k) v (map entry m.entries)
+      ∙ sym (get-insert nat_list_cmp_total (read m) (vec_items k) v q ∙ ap (cond _ (Some v)) (get-from_entries nat_list_cmp_total (map entry m.entries) q)))
 
 -- what a session's map has at a name, and after a name is given
 pub ruleset reading = (get-read, read-insert)

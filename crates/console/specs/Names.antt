@@ -3,7 +3,7 @@ use Rattle.std.specs.Prelude.{◌≡◌, ℕ, Bool, true, false, List, ◌∷◌
 use Rattle.std.specs.Ordering.{nat_cmp}
 use Rattle.std.specs.Cmp.Lexicographic.{slice_cmp}
 use Rattle.std.specs.FinMap.{FinMap, get, insert, from_entries}
-use Rattle.std.specs.HashMap.{HashMap}
+use Rattle.std.specs.BTreeMap.{BTreeMap}
 use Rattle.std.specs.List.{slice_get}
 use Rattle.std.specs.Option.{option_map, option_and_then}
 use Rattle.console.specs.declared.part.Part.{Part}
@@ -20,8 +20,7 @@ module _ {X Y : Type 0} where
   abbrev pub entry : Vec ℕ Y × X → List ℕ × X
   entry e = (vec_items e.0, e.1)
 
-  -- a map leaves the order of its entries open; read, they stand in the names' order
-  abbrev pub read : {S : Type 0} → HashMap (Vec ℕ Y) X S → FinMap (slice_cmp nat_cmp) X
+  abbrev pub read : BTreeMap (Vec ℕ Y) X → FinMap (slice_cmp nat_cmp) X
   read m = from_entries (map entry m.entries)
 
 -- what a session has: its parts, by number, and its names

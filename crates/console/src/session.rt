@@ -11,7 +11,7 @@ use crate::part::Part;
 use machines::machine::Summary;
 use machines::refusal::Refusal;
 use std::alloc::{AllocError, Global};
-use std::collections::HashMap;
+use std::collections::BTreeMap;
 use std::marker::Model;
 
 // A name may be given again, and then stands for what it was given last; a pair keeps the parts that it was made of.
@@ -19,7 +19,7 @@ use std::marker::Model;
 pub struct Session {
     heap: Global,
     parts: Vec<Part>,
-    names: HashMap<Vec<u8>, Named>,
+    names: BTreeMap<Vec<u8>, Named>,
 }
 
 impl Model for Session {
@@ -47,7 +47,7 @@ impl Session {
         Session {
             heap,
             parts: Vec::new(heap),
-            names: HashMap::new(heap),
+            names: BTreeMap::new(heap),
         }
     }
 
