@@ -1,15 +1,18 @@
 // A machine as a script gives it, and the machine itself.
-ghost use Rattle.std.specs.Prelude.{◌≡◌};
+ghost use Rattle.std.specs.Prelude.{◌≡◌, IfOk};
 ghost use Rattle.machines.specs.Automaton.{bare};
 ghost use Rattle.machines.specs.Deadline.{deadline, DeadlineArguments};
+ghost use Rattle.console.specs.Names.{made_from};
 ghost use Rattle.console.specs.Stations.{part_automaton, station_automaton};
 
 use machines::choice::Choice;
 use machines::deadline::Deadline;
 use models::table::Table;
+use std::alloc::AllocError;
+use std::rc::Rc;
 
 // What a table or a deadline is made from.
-#[derive(Drop)]
+#[derive(Clone, Drop)]
 pub enum Part {
     // One bare location.
     Bare,
@@ -29,6 +32,13 @@ impl Part {
             Err(_) => Part::Bare,
         }
     }
+}
+
+// The part itself where nobody else keeps it, and else a copy.
+pub(crate) fn owned(part: Rc<Part>) -> Result<Part, AllocError>
+    ensures { IfOk result (λ own. made_from own ≡ made_from part.value) }
+{
+    Rc::unwrap_or_clone(part)
 }
 
 // A table or a deadline.

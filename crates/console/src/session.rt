@@ -1,18 +1,20 @@
 // The names of a script and what they stand for.
-ghost use Rattle.std.specs.Prelude.{◌≡◌, [], is_ok, IfOk, OnOk, OnErr};
+ghost use Rattle.std.specs.Prelude.{◌≡◌, ◌<◌, [], length, take, Some, is_ok, IfOk, OnOk, OnErr};
 ghost use Rattle.std.specs.List.{slice_get};
 ghost use Rattle.std.specs.Option.{option_map};
 ghost use Rattle.std.specs.FinMap.{empty, get, insert};
-ghost use Rattle.console.specs.Stations.{ModelRead, lent};
+ghost use Rattle.console.specs.Stations.{ModelRead, lent, named_automaton, part_automaton};
+ghost use Rattle.pairs.specs.Product.{pair_of};
 
 use crate::answer::read_model;
 use crate::named::Named;
-use crate::part::Part;
+use crate::part::{Part, owned};
 use machines::machine::Summary;
 use machines::refusal::Refusal;
 use std::alloc::{AllocError, Global};
 use std::collections::BTreeMap;
 use std::marker::Model;
+use std::rc::Rc;
 
 // A name may be given again, and then stands for what it was given last; a pair keeps the parts that it was made of.
 #[derive(Drop)]
@@ -39,10 +41,11 @@ impl Model for Session {
 }
 
 impl Session {
-    ghost use Rattle.console.specs.Names.{Loaded, defined, parts_of};
+    ghost use Rattle.console.specs.Names.{Joined, Kept, Loaded, Whole, defined, joined, parts_of, stands};
 
     pub fn new(heap: Global) -> Session
-        ensures { (result.parts ≡ []) × (result.names ≡ empty) }
+        ensures empty { (result.parts ≡ []) × (result.names ≡ empty) }
+        ensures whole { Whole result }
     {
         Session {
             heap,
@@ -91,6 +94,8 @@ impl Session {
     // Gives the name to a new part. Where memory fails nothing changes.
     pub fn define(&mut self, name: &[u8], part: Part) -> Result<(), AllocError>
         ensures ok { OnOk result (self.new ≡ defined self.old name.now part) }
+        ensures given { OnOk result ((stands self.new name.now ≡ Some (Named.Part part)) × Kept name.now self.old self.new) }
+        ensures whole { OnOk result (Whole self.old → Whole self.new) }
         ensures err { OnErr result (self.new ≡ self.old) }
     {
         let number = self.parts.len();
@@ -111,6 +116,7 @@ impl Session {
     ) -> Result<Result<(Summary, u32), Refusal>, AllocError>
         ensures answer { IfOk result (λ a. ModelRead file.items a) }
         ensures names { IfOk result (λ a. Loaded (is_ok a) name.now (Part.Table file) self.old self.new) }
+        ensures whole { OnOk result (Whole self.old → Whole self.new) }
         ensures err { OnErr result (self.new ≡ self.old) }
     {
         match read_model(file.as_slice()) {
@@ -126,13 +132,44 @@ impl Session {
         }
     }
 
-    // Gives the name to the pair of two parts. Where memory fails nothing changes.
-    pub fn join(&mut self, name: &[u8], left: usize, right: usize) -> Result<(), AllocError>
+    // Gives the name to the pair of the parts of these numbers. Where memory fails nothing changes.
+    pub fn join_parts(&mut self, name: &[u8], left: usize, right: usize) -> Result<(), AllocError>
         ensures parts { self.new.parts ≡ self.old.parts }
         ensures names { OnOk result (self.new.names ≡ insert self.old.names name.now (Named.Pair left right)) }
+        ensures whole { OnOk result (Whole self.old → (left < length self.old.parts) → (right < length self.old.parts) → Whole self.new) }
         ensures err { OnErr result (self.new ≡ self.old) }
     {
         self.bind(name, Named::Pair(left, right))
+    }
+
+    // Takes two parts in and gives the name to their pair. Where memory fails they may stay past the others.
+    fn join_new(&mut self, name: &[u8], left: Part, right: Part) -> Result<(), AllocError>
+        ensures ok { OnOk result (self.new ≡ joined self.old name.now left right) }
+        ensures err { OnErr result ((take (length self.old.parts) self.new.parts ≡ self.old.parts) × (self.new.names ≡ self.old.names)) }
+    {
+        let first = self.parts.len();
+        self.parts.push(left)?;
+        let second = self.parts.len();
+        self.parts.push(right)?;
+        self.join_parts(name, first, second)
+    }
+
+    // Gives the name to the pair of two parts that others may keep too; the session takes a copy then. Where memory fails nothing
+    // changes.
+    pub fn join(&mut self, name: &[u8], left: Rc<Part>, right: Rc<Part>) -> Result<(), AllocError>
+        ensures ok { OnOk result (Joined self.old name.now left.value right.value self.new) }
+        ensures given { OnOk result ((option_map named_automaton (stands self.new name.now) ≡ Some (pair_of (part_automaton left.value) (part_automaton right.value))) × Kept name.now self.old self.new) }
+        ensures whole { OnOk result (Whole self.old → Whole self.new) }
+        ensures err { OnErr result (self.new ≡ self.old) }
+    {
+        let left = owned(left)?;
+        let right = owned(right)?;
+        let before = self.parts.len();
+        let joined = self.join_new(name, left, right);
+        if joined.is_err() {
+            self.parts.truncate(before);
+        }
+        joined
     }
 }
 
@@ -173,10 +210,25 @@ mod tests {
         session.define(b"rule", Part::Deadline(Deadline::new(0, 1, 3, 5)?))?;
         let door = number(&session, b"door")?;
         let rule = number(&session, b"rule")?;
-        session.join(b"ruled", door, rule)?;
+        session.join_parts(b"ruled", door, rule)?;
         assert_eq!(rt; locations(&session, b"door"), Some(3));
         assert_eq!(rt; locations(&session, b"rule"), Some(2));
         assert_eq!(rt; locations(&session, b"ruled"), Some(6));
+        Ok(())
+    }
+
+    #[test]
+    fn shared_parts_are_joined(rt: HostRuntime) -> Result<(), Fail> {
+        let heap = rt.alloc();
+        let mut session = Session::new(heap);
+        let door = Rc::new(heap, Part::Table(model(heap, 3)?))?;
+        let rule = Rc::new(heap, Part::Deadline(Deadline::new(0, 1, 3, 5)?))?;
+        session.load(b"both", model(heap, 5)?)??;
+        session.join(b"ruled", door.clone()?, rule)?;
+        session.join(b"both", door.clone()?, door)?;
+        assert_eq!(rt; locations(&session, b"ruled"), Some(6));
+        assert_eq!(rt; locations(&session, b"both"), Some(9));
+        assert!(rt; matches!(session.find(b"both"), Some(Named::Pair(3, 4))));
         Ok(())
     }
 
@@ -199,7 +251,7 @@ mod tests {
         let mut session = Session::new(heap);
         session.load(b"door", model(heap, 3)?)??;
         let door = number(&session, b"door")?;
-        session.join(b"both", door, door)?;
+        session.join_parts(b"both", door, door)?;
         session.load(b"door", model(heap, 5)?)??;
         assert_eq!(rt; locations(&session, b"door"), Some(5));
         assert_eq!(rt; locations(&session, b"both"), Some(9));

@@ -85,7 +85,7 @@ impl<'a, R: Files + Print + AllocGlobal> Console<'a, R> {
         let (right, right_part) = self.part(right)?;
         match read_pair(left_part, right_part) {
             Ok(sum) => {
-                self.session.join(name, left, right)?;
+                self.session.join_parts(name, left, right)?;
                 print!(self.rt; "pair {text}: ")?;
                 print_summary(self.rt, sum, None)?;
             }
