@@ -48,9 +48,9 @@ parts_of parts (named.Pair i j) = option_and_then (λ l. option_map (named.Pair 
 abbrev pub stands : Contents → List ℕ → Option (Named Part)
 stands s name = option_and_then (parts_of s.parts) (get s.names name)
 
--- every other name stands for the parts that it stood for
+-- every other name has the numbers that it had, and stands for the parts that it stood for
 abbrev pub Kept : List ℕ → Contents → Contents → Type 0
-Kept name old new = (other : List ℕ) (what : Named Part) → other ≢ name → stands old other ≡ Some what → stands new other ≡ Some what
+Kept name old new = (other : List ℕ) → other ≢ name → (get new.names other ≡ get old.names other) × ((what : Named Part) → stands old other ≡ Some what → stands new other ≡ Some what)
 
 -- every name stands for parts
 abbrev pub Whole : Contents → Type 0
@@ -66,7 +66,7 @@ made_from (part.Deadline d) = Some (inr d)
 abbrev pub joined : Contents → List ℕ → Part → Part → Contents
 joined old name l r = record { parts = old.parts ++ l ∷ r ∷ []; names = insert old.names name (named.Pair (length old.parts) (length old.parts + 1)) }
 
--- that session with two parts that are made from the same as these
+-- a session with two parts more, made from the same as these, to whose pair the name is given
 pub record Joined (old : Contents) (name : List ℕ) (left right : Part) (new : Contents) : Type 0 where
   pub l : Part
   pub r : Part

@@ -95,7 +95,7 @@ impl Session {
     pub fn define(&mut self, name: &[u8], part: Part) -> Result<(), AllocError>
         ensures ok { OnOk result (self.new ≡ defined self.old name.now part) }
         ensures given { OnOk result ((stands self.new name.now ≡ Some (Named.Part part)) × Kept name.now self.old self.new) }
-        ensures whole { OnOk result (Whole self.old → Whole self.new) }
+        ensures whole { Whole self.old → Whole self.new }
         ensures err { OnErr result (self.new ≡ self.old) }
     {
         let number = self.parts.len();
@@ -116,7 +116,7 @@ impl Session {
     ) -> Result<Result<(Summary, u32), Refusal>, AllocError>
         ensures answer { IfOk result (λ a. ModelRead file.items a) }
         ensures names { IfOk result (λ a. Loaded (is_ok a) name.now (Part.Table file) self.old self.new) }
-        ensures whole { OnOk result (Whole self.old → Whole self.new) }
+        ensures whole { Whole self.old → Whole self.new }
         ensures err { OnErr result (self.new ≡ self.old) }
     {
         match read_model(file.as_slice()) {
@@ -136,7 +136,8 @@ impl Session {
     pub fn join_parts(&mut self, name: &[u8], left: usize, right: usize) -> Result<(), AllocError>
         ensures parts { self.new.parts ≡ self.old.parts }
         ensures names { OnOk result (self.new.names ≡ insert self.old.names name.now (Named.Pair left right)) }
-        ensures whole { OnOk result (Whole self.old → (left < length self.old.parts) → (right < length self.old.parts) → Whole self.new) }
+        ensures given { OnOk result ((stands self.new name.now ≡ parts_of self.old.parts (Named.Pair left right)) × Kept name.now self.old self.new) }
+        ensures whole { Whole self.old → left < length self.old.parts → right < length self.old.parts → Whole self.new }
         ensures err { OnErr result (self.new ≡ self.old) }
     {
         self.bind(name, Named::Pair(left, right))
@@ -159,7 +160,7 @@ impl Session {
     pub fn join(&mut self, name: &[u8], left: Rc<Part>, right: Rc<Part>) -> Result<(), AllocError>
         ensures ok { OnOk result (Joined self.old name.now left.value right.value self.new) }
         ensures given { OnOk result ((option_map named_automaton (stands self.new name.now) ≡ Some (pair_of (part_automaton left.value) (part_automaton right.value))) × Kept name.now self.old self.new) }
-        ensures whole { OnOk result (Whole self.old → Whole self.new) }
+        ensures whole { Whole self.old → Whole self.new }
         ensures err { OnErr result (self.new ≡ self.old) }
     {
         let left = owned(left)?;

@@ -1,4 +1,9 @@
 // One line of a script.
+ghost use Rattle.std.specs.Prelude.{◌≡◌, ◌<◌, length, is_ok, is_some, IfOk, MatchResult, Some, None};
+ghost use Rattle.std.specs.FinMap.{get};
+ghost use Rattle.std.proofs.Props.{props};
+ghost use Rattle.console.specs.Names.{Whole};
+
 use crate::describe::{describe, print_summary};
 use crate::trouble::Trouble;
 use console::answer::{read_pair, replay_named};
@@ -22,6 +27,8 @@ use std::str::from_utf8;
 pub struct Console<'a, R> {
     rt: &'a R,
     session: Session,
+    // Every name stands for parts, so that no known name is missing.
+    ghost whole: { Whole session } by { Prim.hlevel props },
 }
 
 impl<'a, R: Files + Print + AllocGlobal> Console<'a, R> {
@@ -95,7 +102,9 @@ impl<'a, R: Files + Print + AllocGlobal> Console<'a, R> {
     }
 
     // The table or deadline with the name, and its number.
-    fn part(&self, name: &[u8]) -> Result<(usize, &Part), Fault> {
+    fn part(&self, name: &[u8]) -> Result<(usize, &Part), Fault>
+        ensures { IfOk result (λ p. p.0 < length self.now.session.parts) }
+    {
         match self.named(name)? {
             Named::Part(number) => {
                 let part = self.session.part(number).ok_or(Fault::Missing)?;
@@ -106,14 +115,18 @@ impl<'a, R: Files + Print + AllocGlobal> Console<'a, R> {
     }
 
     // The parts that the name stands for.
-    fn parts(&self, name: &[u8]) -> Result<Named<&Part>, Fault> {
+    fn parts(&self, name: &[u8]) -> Result<Named<&Part>, Fault>
+        ensures { is_ok result ≡ is_some (get self.now.session.names name.now) }
+    {
         self.session
             .parts_of(self.named(name)?)
             .ok_or(Fault::Missing)
     }
 
     // What the name stands for.
-    fn named(&self, name: &[u8]) -> Result<Named, Fault> {
+    fn named(&self, name: &[u8]) -> Result<Named, Fault>
+        ensures { MatchResult result (λ n. get self.now.session.names name.now ≡ Some n) (λ _. get self.now.session.names name.now ≡ None) }
+    {
         self.session.find(name).ok_or(Fault::Missing)
     }
 

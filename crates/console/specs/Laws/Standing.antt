@@ -72,11 +72,14 @@ stands_given : (s : Contents) (qs : List Part) (name : List ℕ) (n : Named ℕ)
 unfolding more_given
 stands_given s qs name n = ap (option_and_then (parts_of (s.parts ++ qs))) (get_given s.names name n)
 
-stands_other : (s : Contents) (qs : List Part) (name other : List ℕ) (n : Named ℕ) (w : Named Part) → other ≢ name → stands s other ≡ Some w → stands (more_given s qs name n) other ≡ Some w
+kept_more : (s : Contents) (qs : List Part) (name : List ℕ) (n : Named ℕ) → Kept name s (more_given s qs name n)
 unfolding more_given
-stands_other s qs name other n w apart e =
-    ap (option_and_then (parts_of (s.parts ++ qs))) (get_other s.names name other n apart)
-    ∙ option_and_then_some (parts_of s.parts) (get s.names other) w e (λ m is here. ap (option_and_then (parts_of (s.parts ++ qs))) is ∙ parts_more s.parts qs m w here)
+kept_more s qs name n other apart =
+    let same = get_other s.names name other n apart in (
+      same,
+      (λ w e. ap (option_and_then (parts_of (s.parts ++ qs))) same
+          ∙ option_and_then_some (parts_of s.parts) (get s.names other) w e (λ m is here. ap (option_and_then (parts_of (s.parts ++ qs))) is ∙ parts_more s.parts qs m w here)),
+    )
 
 -- every name stands for parts still, where the one that is given does
 whole_more : (s : Contents) (qs : List Part) (name : List ℕ) (n : Named ℕ) (w : Named Part) → parts_of (s.parts ++ qs) n ≡ Some w → Whole s → Whole (more_given s qs name n)
@@ -105,13 +108,13 @@ last ps p qs = slice_get_read (ps ++ p ∷ qs) (length (ps ++ p ∷ qs)) (length
 second : (ps : List Part) (l r : Part) → slice_get (ps ++ l ∷ r ∷ []) (length ps + 1) ≡ Some r
 second ps l r = slice_get_read (ps ++ l ∷ r ∷ []) (length (ps ++ l ∷ r ∷ [])) (length ps + 1) r refl (omega (arith, length-append ps (l ∷ r ∷ []))) (sym (get_or-append-add ps (l ∷ r ∷ []) 1 r))
 
-paired_there : (ps : List Part) (i j : ℕ) → i < length ps → j < length ps → (w : Named Part) × (parts_of ps (named.Pair i j) ≡ Some w)
+pub paired_there : (ps : List Part) (i j : ℕ) → i < length ps → j < length ps → (w : Named Part) × (parts_of ps (named.Pair i j) ≡ Some w)
 paired_there ps i j a b = (named.Pair (get_or ps i part.Bare) (get_or ps j part.Bare), rw (slice_get-get_or ps i part.Bare a, slice_get-get_or ps j part.Bare b) refl)
 
 pair_there : (ps : List Part) (l r : Part) → parts_of (ps ++ l ∷ r ∷ []) (named.Pair (length ps) (length ps + 1)) ≡ Some (named.Pair l r)
 pair_there ps l r = rw (last ps l (r ∷ []), second ps l r) refl
 
--- parts made from the same are the same automaton
+-- parts made from the same make the same automaton
 automaton_from : Option (List ℕ ⊎ Deadline) → Automaton
 automaton_from None = bare
 automaton_from (Some (inl file)) = cond (is_ok (verdict file)) (model file) bare
@@ -133,7 +136,7 @@ defined_stands old name p = stands_given old (p ∷ []) name (named.Part (length
 
 pub defined_kept : (old : Contents) (name : List ℕ) (p : Part) → Kept name old (defined old name p)
 unfolding more_given
-defined_kept old name p other w = stands_other old (p ∷ []) name other (named.Part (length old.parts)) w
+defined_kept old name p = kept_more old (p ∷ []) name (named.Part (length old.parts))
 
 pub defined_whole : (old : Contents) (name : List ℕ) (p : Part) → Whole old → Whole (defined old name p)
 unfolding more_given
@@ -146,20 +149,27 @@ joined_stands old name l r = stands_given old (l ∷ r ∷ []) name (named.Pair 
 
 pub joined_kept : (old : Contents) (name : List ℕ) (l r : Part) → Kept name old (joined old name l r)
 unfolding more_given
-joined_kept old name l r other w = stands_other old (l ∷ r ∷ []) name other (named.Pair (length old.parts) (length old.parts + 1)) w
+joined_kept old name l r = kept_more old (l ∷ r ∷ []) name (named.Pair (length old.parts) (length old.parts + 1))
 
 pub joined_whole : (old : Contents) (name : List ℕ) (l r : Part) → Whole old → Whole (joined old name l r)
 unfolding more_given
 joined_whole old name l r = whole_more old (l ∷ r ∷ []) name (named.Pair (length old.parts) (length old.parts + 1)) (named.Pair l r) (pair_there old.parts l r)
 
--- every name stands for parts still, where one is given to the numbers of two parts
-pub paired_whole : (old new : Contents) (name : List ℕ) (i j : ℕ) → new.parts ≡ old.parts → new.names ≡ insert old.names name (named.Pair i j) → Whole old → i < length old.parts → j < length old.parts → Whole new
-unfolding more_given
-paired_whole old new name i j ps ns whole a b =
-    let is : new ≡ more_given old [] name (named.Pair i j) = λ k. record { parts = (ps ∙ sym (append-nil old.parts)) k; names = ns k } in
-    let there = paired_there (old.parts ++ []) i j (omega (arith, length-append old.parts [])) (omega (arith, length-append old.parts [])) in
-    subst Whole (sym is) (whole_more old [] name (named.Pair i j) there.0 there.1 whole)
+-- the same where a name is given to numbers
+module _ (old new : Contents) (name : List ℕ) (n : Named ℕ) (parts : new.parts ≡ old.parts) (names : new.names ≡ insert old.names name n) where
+  numbered : new ≡ more_given old [] name n
+  unfolding more_given
+  numbered i = record { parts = (parts ∙ sym (append-nil old.parts)) i; names = names i }
 
--- and in a session without names
+  pub numbered_stands : stands new name ≡ parts_of old.parts n
+  numbered_stands = ap (λ s. stands s name) numbered ∙ stands_given old [] name n ∙ ap (λ ps. parts_of ps n) (append-nil old.parts)
+
+  pub numbered_kept : Kept name old new
+  numbered_kept = subst (Kept name old) (sym numbered) (kept_more old [] name n)
+
+  pub numbered_whole : (w : Named Part) → parts_of old.parts n ≡ Some w → Whole old → Whole new
+  numbered_whole w there whole = subst Whole (sym numbered) (whole_more old [] name n w (ap (λ ps. parts_of ps n) (append-nil old.parts) ∙ there) whole)
+
+-- every name stands for parts where there is none
 pub empty_whole : (s : Contents) → s.names ≡ empty → Whole s
 empty_whole s is name = rw (is, get-empty {X = Named ℕ} (slice_cmp nat_cmp) name) refl

@@ -6,4 +6,4 @@ pub returns-else-is_err-clause-given : goal.returns-else-is_err-clause-given
 returns-else-is_err-clause-given c = after_define c.bind-bound.result c.args.self.now c.bind-bound.new.self c.args.name.now c.args.part (search rules)
 
 pub returns-else-is_err-clause-whole : goal.returns-else-is_err-clause-whole
-returns-else-is_err-clause-whole c = whole_define c.bind-bound.result c.args.self.now c.bind-bound.new.self c.args.name.now c.args.part (search rules)
+returns-else-is_err-clause-whole c = whole_define c.bind-bound.result c.args.self.now c.bind-bound.new.self c.args.name.now c.args.part (search rules) (search rules)
