@@ -224,12 +224,17 @@ mod tests {
         let mut session = Session::new(heap);
         let door = Rc::new(heap, Part::Table(model(heap, 3)?))?;
         let rule = Rc::new(heap, Part::Deadline(Deadline::new(0, 1, 3, 5)?))?;
+        let bare = Rc::new(heap, Part::Bare)?;
         session.load(b"both", model(heap, 5)?)??;
-        session.join(b"ruled", door.clone()?, rule)?;
+        session.join(b"ruled", door.clone()?, rule.clone()?)?;
+        session.join(b"rule", rule, bare.clone()?)?;
+        session.join(b"bare", bare.clone()?, bare)?;
         session.join(b"both", door.clone()?, door)?;
         assert_eq!(rt; locations(&session, b"ruled"), Some(6));
+        assert_eq!(rt; locations(&session, b"rule"), Some(2));
+        assert_eq!(rt; locations(&session, b"bare"), Some(1));
         assert_eq!(rt; locations(&session, b"both"), Some(9));
-        assert!(rt; matches!(session.find(b"both"), Some(Named::Pair(3, 4))));
+        assert!(rt; matches!(session.find(b"both"), Some(Named::Pair(7, 8))));
         Ok(())
     }
 
