@@ -9,7 +9,7 @@ use Rattle.console.specs.declared.part.Part.{Part}
 use Rattle.console.specs.declared.named.Named.TheVariants as named
 use Rattle.console.specs.Stations.{part_automaton, named_automaton}
 use Rattle.console.specs.Names.{Contents, Joined, Kept, Whole, defined, joined, made_from, parts_of, stands}
-use Rattle.console.specs.Laws.Standing.{defined_stands, defined_kept, defined_whole, joined_stands, joined_kept, joined_whole, numbered_stands, numbered_kept, numbered_whole, paired_there, same_automaton}
+use Rattle.console.specs.Laws.Standing.{defined_stands, defined_kept, defined_whole, joined_stands, joined_kept, joined_whole, numbered_stands, numbered_kept, numbered_whole, below_there, same_automaton}
 
 -- whatever the answer
 either_way : {A E : Type 0} (r : Result (Unit {0}) E) (old new : Contents) → (A → Whole old → Whole new) → OnOk r A → OnErr r (new ≡ old) → Whole old → Whole new
@@ -42,5 +42,5 @@ module _ {E : Type 0} (r : Result (Unit {0}) E) (old new : Contents) (name : Lis
 
     pub whole_join_parts : OnErr r (new ≡ old) → Whole old → i < length old.parts → j < length old.parts → Whole new
     whole_join_parts err whole a b =
-        let there = paired_there old.parts i j a b in
+        let there = below_there old.parts i j a b in
         either_way r old new (λ is. numbered_whole old new name (named.Pair i j) parts is there.0 there.1) names err whole

@@ -1,8 +1,11 @@
 // One line of a script.
-ghost use Rattle.std.specs.Prelude.{◌≡◌, ◌<◌, length, is_ok, is_some, IfOk, MatchResult, Some, None};
+ghost use Rattle.std.specs.Prelude.{◌≡◌, ◌≢◌, ℕ, if◌then◌else◌, is_some, IfOk, IfErr, MatchResult, Some, None};
 ghost use Rattle.std.specs.FinMap.{get};
+ghost use Rattle.std.specs.List.{slice_get};
 ghost use Rattle.std.proofs.Props.{props};
-ghost use Rattle.console.specs.Names.{Whole};
+ghost use Rattle.console.specs.Names.{Whole, stands};
+ghost use Rattle.console.specs.Stations.{lent};
+ghost use Rattle.scripts.specs.declared.fault.Fault.TheVariants.{Missing, Paired};
 
 use crate::describe::{describe, print_summary};
 use crate::trouble::Trouble;
@@ -103,7 +106,8 @@ impl<'a, R: Files + Print + AllocGlobal> Console<'a, R> {
 
     // The table or deadline with the name, and its number.
     fn part(&self, name: &[u8]) -> Result<(usize, &Part), Fault>
-        ensures { IfOk result (λ p. p.0 < length self.now.session.parts) }
+        ensures ok { IfOk result (λ p. (get self.now.session.names name.now ≡ Some (Named.Part p.0)) × (slice_get self.now.session.parts p.0 ≡ Some p.1.now)) }
+        ensures err { IfErr result (λ e. (e ≡ (if is_some (get self.now.session.names name.now) then Paired else Missing)) × ((i : ℕ) → get self.now.session.names name.now ≢ Some (Named.Part i))) }
     {
         match self.named(name)? {
             Named::Part(number) => {
@@ -116,7 +120,7 @@ impl<'a, R: Files + Print + AllocGlobal> Console<'a, R> {
 
     // The parts that the name stands for.
     fn parts(&self, name: &[u8]) -> Result<Named<&Part>, Fault>
-        ensures { is_ok result ≡ is_some (get self.now.session.names name.now) }
+        ensures { MatchResult result (λ what. stands self.now.session name.now ≡ Some (lent what)) (λ e. (e ≡ Missing) × (get self.now.session.names name.now ≡ None)) }
     {
         self.session
             .parts_of(self.named(name)?)
@@ -125,7 +129,7 @@ impl<'a, R: Files + Print + AllocGlobal> Console<'a, R> {
 
     // What the name stands for.
     fn named(&self, name: &[u8]) -> Result<Named, Fault>
-        ensures { MatchResult result (λ n. get self.now.session.names name.now ≡ Some n) (λ _. get self.now.session.names name.now ≡ None) }
+        ensures { MatchResult result (λ what. get self.now.session.names name.now ≡ Some what) (λ e. (e ≡ Missing) × (get self.now.session.names name.now ≡ None)) }
     {
         self.session.find(name).ok_or(Fault::Missing)
     }

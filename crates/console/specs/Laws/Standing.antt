@@ -8,11 +8,10 @@ use Rattle.std.specs.List.{slice_get}
 use Rattle.std.specs.Option.{option_map, option_and_then}
 use Rattle.std.specs.Cmp.Lexicographic.{slice_cmp, nat_list_cmp_total}
 use Rattle.std.specs.FinMap.{get, insert, empty, get-insert, get-empty, slice_cmp-IsAntisymmetric, nat_cmp-IsAntisymmetric}
-use Rattle.std.proofs.lemmas.Option.{slice_get_within, slice_get_read, slice_get-get_or, get_or_from_slice_get, option_and_then_some}
-use Rattle.std.proofs.lemmas.List.{get_or_append_left, get_or-append-add}
-use Rattle.std.proofs.Math.Seq.{get_or-append_seam}
+use Rattle.std.proofs.lemmas.Option.{slice_get_within, slice_get-get_or, option_and_then_some}
 use Rattle.models.specs.Format.{verdict}
 use Rattle.models.specs.Model.{model}
+use Rattle.pairs.proofs.Joints.{nth_front, nth_behind}
 use Rattle.machines.specs.Automaton.{Automaton, bare}
 use Rattle.machines.specs.declared.deadline.Deadline.{Deadline}
 use Rattle.machines.specs.Deadline.{deadline}
@@ -25,9 +24,7 @@ use Rattle.console.specs.Names.{Names, Contents, Kept, Whole, defined, joined, m
 
 -- what stood in a list stands there still
 more : {X : Type 0} (xs ys : List X) (i : ℕ) (x : X) → slice_get xs i ≡ Some x → slice_get (xs ++ ys) i ≡ Some x
-more xs ys i x e =
-    let lt = slice_get_within xs i x e in
-    slice_get_read (xs ++ ys) (length (xs ++ ys)) i x refl (omega (arith, length-append xs ys)) (sym (get_or_append_left xs ys x i lt ∙ get_or_from_slice_get xs i x x e))
+more xs ys i x e = nth_front xs ys i (slice_get_within xs i x e) ∙ e
 
 -- so that numbers have the parts that they had
 part_more : (f : Part → Named Part) (ps qs : List Part) (i : ℕ) (w : Named Part) → option_map f (slice_get ps i) ≡ Some w → option_map f (slice_get (ps ++ qs) i) ≡ Some w
@@ -86,12 +83,9 @@ whole_more : (s : Contents) (qs : List Part) (name : List ℕ) (n : Named ℕ) (
 unfolding more_given
 whole_more s qs name n w there whole other = go (slice_cmp nat_cmp other name) refl
   where
-    same : (m : Named ℕ) → get s.names other ≡ Some m → is_some (parts_of s.parts m) ≡ true → is_some (parts_of (s.parts ++ qs) m) ≡ true
-    same m is h = is_some_more s.parts qs m h
-
     old : (o : Option (Named ℕ)) → get s.names other ≡ o → is_some (option_and_then (parts_of (s.parts ++ qs)) o) ≡ is_some o
     old None is = refl
-    old (Some m) is = same m is (sym (ap (λ o. is_some (option_and_then (parts_of s.parts) o)) is) ∙ whole other ∙ ap is_some is)
+    old (Some m) is = is_some_more s.parts qs m (sym (ap (λ o. is_some (option_and_then (parts_of s.parts) o)) is) ∙ whole other ∙ ap is_some is)
 
     go : (o : Ordering) → slice_cmp nat_cmp other name ≡ o → is_some (option_and_then (parts_of (s.parts ++ qs)) (get (insert s.names name n) other)) ≡ is_some (get (insert s.names name n) other)
     go o is = rw (get-insert nat_list_cmp_total s.names name n other, is) (by_order o)
@@ -103,16 +97,14 @@ whole_more s qs name n w there whole other = go (slice_cmp nat_cmp other name) r
 
 -- the parts that come last have the last numbers
 last : (ps : List Part) (p : Part) (qs : List Part) → slice_get (ps ++ p ∷ qs) (length ps) ≡ Some p
-last ps p qs = slice_get_read (ps ++ p ∷ qs) (length (ps ++ p ∷ qs)) (length ps) p refl (omega (arith, length-append ps (p ∷ qs))) (sym (get_or-append_seam ps p qs p))
+last ps p qs = nth_behind ps (p ∷ qs) (length ps) 0 (omega arith)
 
-second : (ps : List Part) (l r : Part) → slice_get (ps ++ l ∷ r ∷ []) (length ps + 1) ≡ Some r
-second ps l r = slice_get_read (ps ++ l ∷ r ∷ []) (length (ps ++ l ∷ r ∷ [])) (length ps + 1) r refl (omega (arith, length-append ps (l ∷ r ∷ []))) (sym (get_or-append-add ps (l ∷ r ∷ []) 1 r))
+last_two : (ps : List Part) (l r : Part) → parts_of (ps ++ l ∷ r ∷ []) (named.Pair (length ps) (length ps + 1)) ≡ Some (named.Pair l r)
+last_two ps l r = rw (last ps l (r ∷ []), nth_behind ps (l ∷ r ∷ []) (length ps + 1) 1 refl) refl
 
-pub paired_there : (ps : List Part) (i j : ℕ) → i < length ps → j < length ps → (w : Named Part) × (parts_of ps (named.Pair i j) ≡ Some w)
-paired_there ps i j a b = (named.Pair (get_or ps i part.Bare) (get_or ps j part.Bare), rw (slice_get-get_or ps i part.Bare a, slice_get-get_or ps j part.Bare b) refl)
-
-pair_there : (ps : List Part) (l r : Part) → parts_of (ps ++ l ∷ r ∷ []) (named.Pair (length ps) (length ps + 1)) ≡ Some (named.Pair l r)
-pair_there ps l r = rw (last ps l (r ∷ []), second ps l r) refl
+-- and each number below the length has a part
+pub below_there : (ps : List Part) (i j : ℕ) → i < length ps → j < length ps → (w : Named Part) × (parts_of ps (named.Pair i j) ≡ Some w)
+below_there ps i j a b = (named.Pair (get_or ps i part.Bare) (get_or ps j part.Bare), rw (slice_get-get_or ps i part.Bare a, slice_get-get_or ps j part.Bare b) refl)
 
 -- parts made from the same make the same automaton
 automaton_from : Option (List ℕ ⊎ Deadline) → Automaton
@@ -145,7 +137,7 @@ defined_whole old name p = whole_more old (p ∷ []) name (named.Part (length ol
 -- and a name that is given to the pair of two new parts, for the pair
 pub joined_stands : (old : Contents) (name : List ℕ) (l r : Part) → stands (joined old name l r) name ≡ Some (named.Pair l r)
 unfolding more_given
-joined_stands old name l r = stands_given old (l ∷ r ∷ []) name (named.Pair (length old.parts) (length old.parts + 1)) ∙ pair_there old.parts l r
+joined_stands old name l r = stands_given old (l ∷ r ∷ []) name (named.Pair (length old.parts) (length old.parts + 1)) ∙ last_two old.parts l r
 
 pub joined_kept : (old : Contents) (name : List ℕ) (l r : Part) → Kept name old (joined old name l r)
 unfolding more_given
@@ -153,7 +145,7 @@ joined_kept old name l r = kept_more old (l ∷ r ∷ []) name (named.Pair (leng
 
 pub joined_whole : (old : Contents) (name : List ℕ) (l r : Part) → Whole old → Whole (joined old name l r)
 unfolding more_given
-joined_whole old name l r = whole_more old (l ∷ r ∷ []) name (named.Pair (length old.parts) (length old.parts + 1)) (named.Pair l r) (pair_there old.parts l r)
+joined_whole old name l r = whole_more old (l ∷ r ∷ []) name (named.Pair (length old.parts) (length old.parts + 1)) (named.Pair l r) (last_two old.parts l r)
 
 -- the same where a name is given to numbers
 module _ (old new : Contents) (name : List ℕ) (n : Named ℕ) (parts : new.parts ≡ old.parts) (names : new.names ≡ insert old.names name n) where
